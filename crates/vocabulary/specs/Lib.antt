@@ -1,0 +1,4 @@
+pub mod Choice
+pub mod Refusals
+pub mod NChars
+pub mod Tokens
