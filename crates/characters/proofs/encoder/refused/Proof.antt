@@ -1,0 +1,14 @@
+-- `characters::encoder::refused` meets its contract.
+-- Assumes nothing.
+use borrow.Author.Needs.{needs}
+use mathlib.Core.Path.{refl, sym, _∙_}
+use Rattle.characters.specs.Calls.{encodeRefused}
+use Rattle.characters.proofs.encoder.refused.Statement.{statement}
+use Rattle.characters.proofs.encoder.refused.Tie as tie
+
+pub refused-spec : {M : Type 1} → statement M
+unfolding encodeRefused
+refused-spec =
+    tie.close
+    (tie.spec
+    (λ c. refl))

@@ -1,0 +1,47 @@
+// Single bits, and the ones in a body.
+ghost use mathlib.Core.Path.{_≡_};
+ghost use mathlib.Core.Bool.{false};
+ghost use Rattle.vocabulary.specs.declared.Token.{Token};
+ghost use Rattle.characters.specs.Bits.{bit, differ, odd, bitsOf};
+ghost use Rattle.characters.specs.Wire.{charactersOf, lastOdd, nCharCharacter};
+use vocabulary::Token;
+
+pub fn bit_number(b: bool) -> u8
+    ensures { λ r. ⌜ r ≡ bit b ⌝ }
+{
+    if b { 1 } else { 0 }
+}
+
+pub fn differ_in(a: bool, b: bool) -> bool
+    ensures { λ r. ⌜ r ≡ differ a b ⌝ }
+{
+    if a { !b } else { b }
+}
+
+// Whether the ones in a data character's body are odd in number: halves are folded onto each other, which keeps that.
+pub fn odd_ones(v: u8) -> bool
+    ensures { λ r. ⌜ r ≡ odd (bitsOf 8 v) ⌝ }
+{
+    let four = v ^ (v / 16);
+    let two = four ^ (four / 4);
+    let one = two ^ (two / 2);
+    one % 2 == 1
+}
+
+fn odd_n_char(n: u16) -> bool
+    ensures { λ r. ⌜ r ≡ odd ((nCharCharacter n) .body) ⌝ }
+{
+    if n < 256 { odd_ones(n as u8) } else { true }
+}
+
+// Whether the ones in the body of a token's last character are odd in number.
+pub fn odd_last(t: Token) -> bool
+    ensures { λ r. ⌜ r ≡ lastOdd false (charactersOf t) ⌝ }
+{
+    match t {
+        Token::Null => false,
+        Token::Fct => false,
+        Token::NChar(n) => odd_n_char(n),
+        Token::TimeCode(v) => odd_ones(v),
+    }
+}
