@@ -1,0 +1,5 @@
+pub mod Meaning
+pub mod Feeding
+pub mod RoundTrip
+pub mod GoodStates
+pub mod Cases
