@@ -1,0 +1,5 @@
+pub mod OrLaws
+pub mod ReadLaws
+pub mod PlaceLaws
+pub mod RingLaws
+pub mod PacketLaws
