@@ -1,0 +1,2 @@
+pub mod CaseProofs
+pub mod GoodStateLaws
