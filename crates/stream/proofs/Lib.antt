@@ -5,3 +5,4 @@ pub mod CallLaws
 pub mod ReadingLaws
 pub mod RunLaws
 pub mod RoundTripProof
+pub mod HuntLaws

@@ -27,6 +27,51 @@ use Rattle.stream.specs.RoundTrip.{reportsOf}
 use Rattle.stream.proofs.RegisterLaws.{marked}
 use Rattle.stream.proofs.CallLaws.{Answers, parity-comes, flag-closes, data-comes, data-whole, control-comes, second-whole}
 
+-- what is reported on the last bit
+unfoldable pub final : Decoder → List Bool → Report
+final d [] = Nothing
+final d (b ∷ []) = (bitAnswer d b) .report
+final d (b ∷ c ∷ bits) = final ((bitAnswer d b) .decoder) (c ∷ bits)
+
+-- one call at the front
+pub after-bit : {d d′ : Decoder} {b : Bool} {r : Report} (bits : List Bool) → Answers d b r d′ → after d (b ∷ bits) ≡ after d′ bits
+unfolding after
+after-bit bits answers = ap (λ (d : Decoder). after d bits) (answers .leaves)
+
+pub after-last : {d d′ : Decoder} {b : Bool} {r : Report} → Answers d b r d′ → after d (b ∷ []) ≡ d′
+unfolding after
+after-last answers = answers .leaves
+
+pub final-bit : {d d′ : Decoder} {b : Bool} {r : Report} (c : Bool) (bits : List Bool) → Answers d b r d′ →
+    final d (b ∷ c ∷ bits) ≡ final d′ (c ∷ bits)
+unfolding final
+final-bit c bits answers = ap (λ (d : Decoder). final d (c ∷ bits)) (answers .leaves)
+
+pub final-last : {d d′ : Decoder} {b : Bool} {r : Report} → Answers d b r d′ → final d (b ∷ []) ≡ r
+unfolding final
+final-last answers = answers .reports
+
+-- bits behind others are fed to the decoder that those left
+pub after-append : (d : Decoder) (xs ys : List Bool) → after d (xs ++ ys) ≡ after (after d xs) ys
+unfolding after
+after-append d [] ys = refl
+after-append d (x ∷ xs) ys = after-append ((bitAnswer d x) .decoder) xs ys
+
+pub final-behind : (d : Decoder) (xs : List Bool) (b : Bool) (ys : List Bool) → final d (xs ++ b ∷ ys) ≡ final (after d xs) (b ∷ ys)
+unfolding after final
+final-behind d [] b ys = refl
+final-behind d (x ∷ []) b ys = refl
+final-behind d (x ∷ y ∷ xs) b ys = final-behind ((bitAnswer d x) .decoder) (y ∷ xs) b ys
+
+pub fed-append : (d : Decoder) (n : ℕ) (xs ys : List Bool) → fed d n (xs ++ ys) ≡ fed d n xs ++ fed (after d xs) (n + length xs) ys
+unfolding after fed
+fed-append d n [] ys = ap (λ (m : ℕ). fed d m ys) (omega arith)
+fed-append d n (x ∷ xs) ys =
+    ap (λ (lines : List Line). lineOf n ((bitAnswer d x) .report) ++ lines)
+    (fed-append ((bitAnswer d x) .decoder) (n + 1) xs ys
+    ∙ ap (λ (m : ℕ). fed ((bitAnswer d x) .decoder) (n + 1) xs ++ fed (after ((bitAnswer d x) .decoder) xs) m ys) (omega arith))
+    ∙ sym (append-assoc (lineOf n ((bitAnswer d x) .report)) (fed ((bitAnswer d x) .decoder) (n + 1) xs) _)
+
 -- what a call adds to the reports
 abbrev pub said : Report → List Report
 said r = reportsOf (lineOf 0 r)
@@ -52,8 +97,8 @@ pub run-bit : {d d′ d″ : Decoder} {b : Bool} {bits : List Bool} {r : Report}
 unfolding after fed
 run-bit {bits} {r} answers run =
     record {
-      leaves = rw answers (run .leaves);
-      says = λ n. rw answers (reports-append n r _ ∙ ap (λ (s : List Report). said r ++ s) (run .says (n + 1)));
+      leaves = rw (answers .leaves) (run .leaves);
+      says = λ n. rw (answers .leaves, answers .reports) (reports-append n r _ ∙ ap (λ (s : List Report). said r ++ s) (run .says (n + 1)));
     }
 
 data-run : {d : Decoder} {rest : List Bool} {rs : List Report} (escape : Bool) (k : ℕ) (ds xs : List Bool) →
