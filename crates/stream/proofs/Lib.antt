@@ -6,3 +6,6 @@ pub mod ReadingLaws
 pub mod RunLaws
 pub mod RoundTripProof
 pub mod HuntLaws
+pub mod RuleLaws
+pub mod StateLaws
+pub mod MeaningProofs

@@ -23,6 +23,11 @@ eight-below body eight = rw eight at (number-below body)
 eight-bits : (body : List Bool) → length body ≡ 8 → bitsOf 8 (number body) ≡ body
 eight-bits body eight = rw eight at (bits-number body)
 
+-- a reading behind no ESC, where a test says that there is none
+pub unescaped : {escape flag : Bool} {body : List Bool} {w : Waiting} → escape ≡ false →
+    Reading false flag body w → Reading escape flag body w
+unescaped plain reading = rw plain reading
+
 pub reading-passes : {escape flag : Bool} {body : List Bool} {w : Waiting} → Reading escape flag body w → badWaiting w ≡ false
 reading-passes (byte {body} eight) = le-ltb 257 (number body) (omega (arith, eight-below body eight))
 reading-passes fct = refl

@@ -30,7 +30,7 @@ use Rattle.characters.specs.declared.report.Report.{Report}
 use Rattle.stream.specs.Meaning.{Reading, byte, fct, eop, eep, esc, null, time-code}
 use Rattle.stream.specs.Feeding.{fed}
 use Rattle.stream.specs.RoundTrip.{encoded, IsToken, AreTokens, withoutLast, reportsOf, gotAll, RoundTrip}
-use Rattle.stream.proofs.ReadingLaws.{reading-odd}
+use Rattle.stream.proofs.ReadingLaws.{unescaped, reading-odd}
 use Rattle.stream.proofs.RunLaws.{Run, said, run-none, character-run, first-run}
 
 -- the bits of tokens, behind a body whose ones are odd or not
@@ -85,10 +85,6 @@ n-char-reading n h = at (decLt n 256) (ℕ-discrete n 256)
     at (no d) (no d′) =
         let e : n ≡ 257 = omega arith in
         rw e eep
-
-unescaped : {escape flag : Bool} {body : List Bool} {w : Waiting} → escape ≡ false →
-    Reading false flag body w → Reading escape flag body w
-unescaped plain reading = rw plain reading
 
 token-run : {w : Waiting} {d : Decoder} {rs : List Report} (t : Token) (rest : List Bool) →
     IsToken t → badWaiting w ≡ false → escaped w ≡ false →

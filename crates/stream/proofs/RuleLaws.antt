@@ -1,0 +1,64 @@
+-- What a rule says is reported on the last of some bits, the decoder reports there: the bits up to a whole character leave it
+-- between two characters, and from there each rule is a few calls.
+-- Assumes nothing.
+use mathlib.Core.Path.{_≡_, refl, sym, ap, _∙_}
+use mathlib.Core.Bool.{Bool, true, false}
+use mathlib.Core.List.{List, [], _∷_, _++_, append-nil}
+use Prim.Native.Nat.{ℕ, _+_}
+use native.Mathlib.Omega.{arith}
+use lib.ListN.{length, length-append}
+use Rattle.vocabulary.specs.declared.Token.the-variants.{Null}
+use Rattle.characters.specs.Wire.{goodParity}
+use Rattle.characters.specs.Decoder.{bodyOdd}
+use Rattle.characters.specs.declared.decoder.Waiting.{Waiting}
+use Rattle.characters.specs.declared.decoder.Waiting.the-variants.{Reported, Whole, Esc}
+use Rattle.characters.specs.declared.decoder.Phase.the-variants.{Between, Parity}
+use Rattle.characters.specs.declared.decoder.Decoder.{Decoder}
+use Rattle.characters.specs.declared.decoder.Decoder.the-variants.{Fresh, Heard}
+use Rattle.characters.specs.declared.report.Report.{Report}
+use Rattle.characters.specs.declared.report.Report.the-variants.{Got}
+use Rattle.stream.specs.Meaning.{eightBits, FirstNull, TogetherOdd, Ended, first, next, ReportedAt, first-null, closed, bad-parity, bad-escape}
+use Rattle.stream.specs.Feeding.{after}
+use Rattle.stream.proofs.CallLaws.{parity-comes, flag-closes, flag-spoils, control-comes, second-spoils}
+use Rattle.stream.proofs.ReadingLaws.{ended-passes, ended-parity}
+use Rattle.stream.proofs.RunLaws.{final, after-append, final-behind, final-bit, final-last, run-none, character-run}
+use Rattle.stream.proofs.HuntLaws.{fresh-hunts, first-null-run}
+
+first-null-found : (bits : List Bool) → FirstNull bits →
+    (after Fresh bits ≡ Heard (Between Reported) 0) × (final Fresh bits ≡ Got Null)
+first-null-found [] null =
+    absurd (omega (arith, ap length (null .found .1), length-append (null .found .0) eightBits))
+first-null-found (b ∷ bits) null = first-null-run bits b fresh-hunts null
+
+ended-after : {bits body : List Bool} {w : Waiting} → Ended bits body w → after Fresh bits ≡ Heard (Between w) 0
+ended-after (first {bits} null) = (first-null-found bits null) .0
+ended-after (next {bits} {body} {body′} {w} p flag ended good reading) =
+    after-append Fresh bits (p ∷ flag ∷ body′)
+    ∙ rw (ended-after ended, ← append-nil body′)
+    ((character-run p (ended-passes ended) (ended-parity p flag ended ∙ good) reading run-none) .leaves)
+
+-- a parity bit and what is behind it come to a decoder that holds what waits
+behind-ended : {bits body : List Bool} {w : Waiting} (p c : Bool) (rest : List Bool) → Ended bits body w →
+    final Fresh (bits ++ p ∷ c ∷ rest) ≡ final (Heard (Parity w p) 0) (c ∷ rest)
+behind-ended {bits} {w} p c rest ended =
+    final-behind Fresh bits p (c ∷ rest)
+    ∙ ap (λ (d : Decoder). final d (p ∷ c ∷ rest)) (ended-after ended)
+    ∙ final-bit c rest (parity-comes w p (ended-passes ended))
+
+not-true : (b : Bool) → (b ≡ true → ⊥) → b ≡ false
+not-true true other = absurd (other refl)
+not-true false other = refl
+
+pub reported : {bits : List Bool} {r : Report} → ReportedAt bits r → final Fresh bits ≡ r
+reported (first-null {bits} null) = (first-null-found bits null) .1
+reported (closed {t} p flag ended good) =
+    behind-ended p flag [] ended
+    ∙ final-last (flag-closes (Whole t) p flag (ended-passes ended) (ended-parity p flag ended ∙ good))
+reported (bad-parity {body} {w} p flag ended bad) =
+    behind-ended p flag [] ended
+    ∙ final-last (flag-spoils w p flag (ended-passes ended) (ended-parity p flag ended ∙ not-true _ bad))
+reported (bad-escape p a b ended good other) =
+    behind-ended p true (a ∷ b ∷ []) ended
+    ∙ final-bit a (b ∷ []) (flag-closes Esc p true refl (ended-parity p true ended ∙ good))
+    ∙ final-bit b [] (control-comes true a)
+    ∙ final-last (second-spoils a b other)
