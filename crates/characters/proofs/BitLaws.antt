@@ -4,7 +4,7 @@ use mathlib.Core.Path.{_≡_, refl, sym, ap, _∙_}
 use mathlib.Core.Bool.{Bool, true, false, not}
 use mathlib.Core.List.{List, [], _∷_, _++_}
 use Prim.Native.Nat.{ℕ, zero, suc, _+_, _*_, _/_, _%_, _^_, _≤_, _<_}
-use native.Mathlib.Nat.{pow-suc, pow-succ', mul-assoc, div-add-mod}
+use native.Mathlib.Nat.{pow-suc, pow-succ', mul-assoc}
 use native.Mathlib.Omega.{arith}
 use native.Mathlib.Decide.{ℕ-discrete}
 use lib.Dec.{eqb}
@@ -61,7 +61,8 @@ number-below (b ∷ xs) = omega (arith, number-below xs, bit-le b, pow-suc 2 (le
 -- bits behind others count for as much more
 pub number-append : (xs ys : List Bool) → number (xs ++ ys) ≡ number xs + 2 ^ length xs * number ys
 number-append [] ys = omega arith
-number-append (x ∷ xs) ys = rw (number-append xs ys, pow-succ' 2 (length xs), mul-assoc 2 (2 ^ length xs) (number ys)) (omega arith)
+number-append (x ∷ xs) ys =
+    rw (number-append xs ys, pow-succ' 2 (length xs), mul-assoc 2 (2 ^ length xs) (number ys)) (omega arith)
 
 not-differ : (a b : Bool) → not (differ a b) ≡ differ (not a) b
 not-differ true true = refl

@@ -1,28 +1,27 @@
 -- What one call with a bit answers, phase by phase, on a decoder that does not refuse it.
 -- Assumes nothing.
-use mathlib.Core.Path.{_≡_, refl, sym, ap, _∙_}
+use mathlib.Core.Path.{_≡_, refl}
 use mathlib.Core.Bool.{Bool, true, false}
 use mathlib.Core.List.{List, [], _∷_, _++_}
-use Prim.Native.Nat.{ℕ, zero, suc, _+_, _%_}
+use Prim.Native.Nat.{ℕ, suc, _+_}
 use native.Mathlib.Omega.{arith}
 use lib.Dec.{eqb}
 use lib.ListN.{length}
-use borrow.Author.Tests.{eq-eqb, ne-eqb}
-use Rattle.vocabulary.specs.Choice.{pick}
-use Rattle.characters.specs.Bits.{bit, number}
+use borrow.Author.Tests.{ne-eqb}
+use Rattle.characters.specs.Bits.{number}
 use Rattle.characters.specs.Wire.{goodParity}
-use Rattle.characters.specs.Decoder.{goesOn, stops, shifted, huntedFor, hunts, bodyOdd, closes, escaped, bodyOf, flagged, dataToken, dataBit, bitStep}
+use Rattle.characters.specs.Decoder.{goesOn, stops, bodyOdd, closes, escaped, bodyOf, flagged, dataToken, dataBit, bitStep}
 use Rattle.characters.specs.Refusals.{badDecoder, badWaiting, isStopped}
 use Rattle.characters.specs.Calls.{bitAnswer, decodeAccepted, decodeRefused}
 use Rattle.characters.proofs.BitLaws.{lowest}
 use Rattle.characters.specs.declared.decoder.Waiting.{Waiting}
-use Rattle.characters.specs.declared.decoder.Waiting.the-variants.{Reported, Whole}
-use Rattle.characters.specs.declared.decoder.Phase.the-variants.{Hunting, Between, Parity, Data, Control, Second}
+use Rattle.characters.specs.declared.decoder.Waiting.the-variants.{Whole}
+use Rattle.characters.specs.declared.decoder.Phase.the-variants.{Between, Parity, Data, Control, Second}
 use Rattle.characters.specs.declared.decoder.Decoder.{Decoder}
-use Rattle.characters.specs.declared.decoder.Decoder.the-variants.{Fresh, Heard, Stopped}
+use Rattle.characters.specs.declared.decoder.Decoder.the-variants.{Heard, Stopped}
 use Rattle.characters.specs.declared.report.Report.{Report}
-use Rattle.characters.specs.declared.report.Report.the-variants.{Nothing, Got, ParityError, EscapeError}
-use Rattle.stream.specs.Meaning.{Reading, fct, eop, eep, esc, null, byte, time-code}
+use Rattle.characters.specs.declared.report.Report.the-variants.{Nothing, ParityError, EscapeError}
+use Rattle.stream.specs.Meaning.{Reading, fct, eop, eep, esc, null}
 use Rattle.stream.proofs.RegisterLaws.{shifted-number, marked, marked-length, marked-snoc, marked-some}
 
 -- `Answers d b r d′`: a call with the bit b on d reports r and leaves d′
@@ -36,7 +35,8 @@ pub accepts : (d : Decoder) (b : Bool) {r : Report} {d′ : Decoder} → badDeco
 unfolding bitAnswer decodeAccepted
 accepts d b passes going step = record { reports = rw (passes, going, step); leaves = rw (passes, going, step) }
 
-pub parity-comes : (w : Waiting) (p : Bool) → badWaiting w ≡ false → Answers (Heard (Between w) 0) p Nothing (Heard (Parity w p) 0)
+pub parity-comes : (w : Waiting) (p : Bool) → badWaiting w ≡ false →
+    Answers (Heard (Between w) 0) p Nothing (Heard (Parity w p) 0)
 unfolding goesOn
 parity-comes w p passes = accepts (Heard (Between w) 0) p passes refl refl
 

@@ -3,12 +3,12 @@
 -- Assumes nothing.
 use mathlib.Core.Path.{_≡_, refl, sym, ap, _∙_}
 use mathlib.Core.Bool.{Bool, true, false, true≢false}
-use mathlib.Core.List.{List, [], _∷_, _++_, append-assoc, head-eq-of-cons-eq, tail-eq-of-cons-eq, nil≢cons}
-use Prim.Native.Nat.{ℕ, zero, suc, _+_, _<_}
+use mathlib.Core.List.{List, [], _∷_, _++_, append-assoc, head-eq-of-cons-eq, tail-eq-of-cons-eq}
+use Prim.Native.Nat.{ℕ, zero, suc, _+_}
 use native.Mathlib.Omega.{arith}
 use native.Mathlib.Decide.{ℕ-discrete}
 use lib.Dec.{eqb}
-use lib.ListN.{length, take, drop, length-append}
+use lib.ListN.{length, drop, length-append}
 use lib.Seq.{append-snoc, drop-at, take-append-add}
 use borrow.Author.Tests.{eq-eqb, ne-eqb}
 use Rattle.vocabulary.specs.declared.Token.the-variants.{Null}
@@ -25,7 +25,7 @@ use Rattle.stream.specs.Meaning.{eightBits, EndIn8, FirstNull}
 use Rattle.stream.specs.Feeding.{after}
 use Rattle.stream.proofs.RegisterLaws.{shifted-number}
 use Rattle.stream.proofs.CallLaws.{Answers, accepts}
-use Rattle.stream.proofs.RunLaws.{final, after-bit, after-last, final-bit, final-last}
+use Rattle.stream.proofs.FeedLaws.{final, after-bit, after-last, final-bit, final-last}
 
 abbrev ones : ℕ → List Bool
 ones zero = []
@@ -91,7 +91,8 @@ module _ {bits : List Bool} {d : Decoder} (h : Hunts bits d) (b : Bool) where
   window-tells : number window ≡ huntedFor → EndIn8 (bits ++ b ∷ [])
   window-tells e =
       inside 8 (bits ++ b ∷ []) (h .before ++ h .oldest ∷ []) _
-      (window-ends ∙ ap (λ (l : List Bool). (h .before ++ h .oldest ∷ []) ++ l) (number-tells window eightBits window-eight e))
+      (window-ends
+      ∙ ap (λ (l : List Bool). (h .before ++ h .oldest ∷ []) ++ l) (number-tells window eightBits window-eight e))
 
   window-told : EndIn8 (bits ++ b ∷ []) → number window ≡ huntedFor
   window-told (noise, e) =

@@ -2,6 +2,7 @@ pub mod CaseProofs
 pub mod GoodStateLaws
 pub mod RegisterLaws
 pub mod CallLaws
+pub mod FeedLaws
 pub mod ReadingLaws
 pub mod RunLaws
 pub mod RoundTripProof

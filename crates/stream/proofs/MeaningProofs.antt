@@ -1,7 +1,7 @@
 -- Fed from fresh, the decoder says what the bits mean: on each bit it reports what a rule gives, and what a rule gives it
 -- reports. So the bits mean one thing, as it says one.
 -- Assumes nothing.
-use mathlib.Core.Path.{_≡_, refl, sym, ap, _∙_}
+use mathlib.Core.Path.{_≡_, refl, sym, _∙_}
 use mathlib.Core.Bool.{Bool}
 use mathlib.Core.List.{List, [], _∷_, _++_, append-nil}
 use Prim.Native.Nat.{ℕ, _+_}
@@ -10,9 +10,10 @@ use lib.ListN.{length}
 use Rattle.characters.specs.declared.decoder.Decoder.the-variants.{Fresh}
 use Rattle.characters.specs.declared.report.Report.{Report}
 use Rattle.characters.specs.declared.report.Report.the-variants.{Nothing, Got, ParityError, EscapeError, Disconnect}
-use Rattle.stream.specs.Meaning.{ReportedAt, first-null, closed, bad-parity, bad-escape, Line, Lists, none, silent, spoken}
+use Rattle.stream.specs.Meaning.{ReportedAt, first-null, closed, bad-parity, bad-escape}
+use Rattle.stream.specs.Meaning.{Line, Lists, none, silent, spoken}
 use Rattle.stream.specs.Feeding.{lineOf, fed, SaysWhatIsMeant, MeansOneThing}
-use Rattle.stream.proofs.RunLaws.{final, final-behind, fed-append}
+use Rattle.stream.proofs.FeedLaws.{final, final-behind, fed-append}
 use Rattle.stream.proofs.RuleLaws.{reported}
 use Rattle.stream.proofs.StateLaws.{Given, by-last, reports-given}
 
@@ -64,7 +65,8 @@ unfolding fed
 lists-fed none = refl
 lists-fed (silent {bits} b lists other) =
     lists-fed lists
-    ∙ sym (fed-last bits b ∙ rw (quiet (final Fresh (bits ++ b ∷ [])) (reports-given bits b) other) (append-nil (fed Fresh 1 bits)))
+    ∙ sym
+    (fed-last bits b ∙ rw (quiet (final Fresh (bits ++ b ∷ [])) (reports-given bits b) other) (append-nil (fed Fresh 1 bits)))
 lists-fed (spoken {bits} b {r} lists h) =
     rw (lists-fed lists, ← makes-line (length bits + 1) h, ← reported h) (sym (fed-last bits b))
 

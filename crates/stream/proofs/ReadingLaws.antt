@@ -3,17 +3,16 @@
 use mathlib.Core.Path.{_≡_, refl, sym, ap, _∙_}
 use mathlib.Core.Bool.{Bool, true, false}
 use mathlib.Core.List.{List, [], _∷_, _++_}
-use Prim.Native.Nat.{ℕ, _<_, _^_}
+use Prim.Native.Nat.{_<_}
 use native.Mathlib.Omega.{arith}
 use lib.ListN.{length}
 use borrow.Author.Tests.{lt-ltb, le-ltb}
 use Rattle.characters.specs.Bits.{differ, odd, number, bitsOf}
 use Rattle.characters.specs.Wire.{goodParity}
-use Rattle.characters.specs.Decoder.{bodyOdd, escaped, dataToken}
+use Rattle.characters.specs.Decoder.{bodyOdd}
 use Rattle.characters.specs.Refusals.{badWaiting}
 use Rattle.characters.proofs.BitLaws.{number-below, bits-number, odd-append}
 use Rattle.characters.specs.declared.decoder.Waiting.{Waiting}
-use Rattle.characters.specs.declared.decoder.Waiting.the-variants.{Reported, Whole, Esc}
 use Rattle.stream.specs.Meaning.{Reading, byte, fct, eop, eep, esc, null, time-code, Ended, first, next}
 
 -- eight bits make a number below 256, and are the eight bits of that number
@@ -28,7 +27,8 @@ pub unescaped : {escape flag : Bool} {body : List Bool} {w : Waiting} → escape
     Reading false flag body w → Reading escape flag body w
 unescaped plain reading = rw plain reading
 
-pub reading-passes : {escape flag : Bool} {body : List Bool} {w : Waiting} → Reading escape flag body w → badWaiting w ≡ false
+pub reading-passes : {escape flag : Bool} {body : List Bool} {w : Waiting} → Reading escape flag body w →
+    badWaiting w ≡ false
 reading-passes (byte {body} eight) = le-ltb 257 (number body) (omega (arith, eight-below body eight))
 reading-passes fct = refl
 reading-passes eop = refl
@@ -62,4 +62,5 @@ differ-false false = refl
 pub ended-parity : {bits body : List Bool} {w : Waiting} (p flag : Bool) → Ended bits body w →
     goodParity (bodyOdd w) p flag ≡ odd (body ++ p ∷ flag ∷ [])
 ended-parity {body} p flag ended =
-    ap (λ (o : Bool). goodParity o p flag) (ended-odd ended) ∙ sym (odd-append body (p ∷ flag ∷ []) ∙ ap (λ (f : Bool). differ (odd body) (differ p f)) (differ-false flag))
+    ap (λ (o : Bool). goodParity o p flag) (ended-odd ended)
+    ∙ sym (odd-append body (p ∷ flag ∷ []) ∙ ap (λ (f : Bool). differ (odd body) (differ p f)) (differ-false flag))

@@ -3,10 +3,10 @@
 use mathlib.Core.Path.{_≡_}
 use mathlib.Core.Bool.{Bool, true, false}
 use mathlib.Core.List.{List, [], _∷_, _++_, append-assoc}
-use Prim.Native.Nat.{ℕ, zero, suc, _+_, _*_, _/_, _%_, _^_}
+use Prim.Native.Nat.{ℕ, zero, suc, _+_}
 use native.Mathlib.Omega.{arith}
 use lib.ListN.{length}
-use Rattle.characters.specs.Bits.{bit, number}
+use Rattle.characters.specs.Bits.{number}
 use Rattle.characters.specs.Decoder.{shifted}
 use Rattle.characters.proofs.BitLaws.{halved, number-append}
 

@@ -1,19 +1,18 @@
 -- What the encoder's calls give is the tokens' bits one after the other, and of each the decoder reports the one before.
 -- Assumes nothing.
-use mathlib.Core.Path.{_≡_, refl, sym, ap, _∙_}
+use mathlib.Core.Path.{_≡_, refl, ap, _∙_}
 use mathlib.Core.Bool.{Bool, true, false}
 use mathlib.Core.List.{List, [], _∷_, _++_, append-assoc}
-use Prim.Native.Nat.{ℕ, suc, _≤_, _<_}
+use Prim.Native.Nat.{ℕ, _≤_, _<_}
 use native.Mathlib.Omega.{arith}
 use native.Mathlib.Decide.{ℕ-discrete, decLt}
-use lib.ListN.{length}
-use borrow.Author.Tests.{eq-eqb, ne-eqb, lt-ltb, le-ltb}
+use borrow.Author.Tests.{lt-ltb, le-ltb}
 use Rattle.vocabulary.specs.Tokens.{badChar}
 use Rattle.vocabulary.specs.declared.Token.{Token}
 use Rattle.vocabulary.specs.declared.Token.the-variants.{Null, Fct, NChar, TimeCode}
-use Rattle.characters.specs.Bits.{odd, number, bitsOf}
-use Rattle.characters.specs.Wire.{Character, data8, parityBit, goodParity, nCharCharacter, charactersOf, wire, lastOdd, wireOf}
-use Rattle.characters.specs.Wire.{fct as fctCharacter, esc as escCharacter}
+use Rattle.characters.specs.Bits.{odd, bitsOf}
+use Rattle.characters.specs.Wire.{Character, data8, fct as fctCharacter, esc as escCharacter, parityBit, goodParity}
+use Rattle.characters.specs.Wire.{nCharCharacter, charactersOf, wire, lastOdd, wireOf}
 use Rattle.characters.specs.Encoder.{freshEncoder, sent}
 use Rattle.characters.specs.Decoder.{bodyOdd, escaped, closes}
 use Rattle.characters.specs.Refusals.{badWaiting}
@@ -22,7 +21,7 @@ use Rattle.characters.proofs.BitLaws.{number-bits, bits-number}
 use Rattle.characters.proofs.WireLaws.{last-of-any}
 use Rattle.characters.specs.declared.encoder.Encoder.{Encoder}
 use Rattle.characters.specs.declared.decoder.Waiting.{Waiting}
-use Rattle.characters.specs.declared.decoder.Waiting.the-variants.{Reported, Whole, Esc}
+use Rattle.characters.specs.declared.decoder.Waiting.the-variants.{Reported, Whole}
 use Rattle.characters.specs.declared.decoder.Phase.the-variants.{Between}
 use Rattle.characters.specs.declared.decoder.Decoder.{Decoder}
 use Rattle.characters.specs.declared.decoder.Decoder.the-variants.{Fresh, Heard}
@@ -79,7 +78,8 @@ time-reading v h = rw (number-bits 8 v h) at (time-code {body = bitsOf 8 v} refl
 n-char-reading : (n : ℕ) → n ≤ 257 → Reading false ((nCharCharacter n) .flag) ((nCharCharacter n) .body) (Whole (NChar n))
 n-char-reading n h = at (decLt n 256) (ℕ-discrete n 256)
   where
-    at : Dec (n < 256) → Dec (n ≡ 256) → Reading false ((nCharCharacter n) .flag) ((nCharCharacter n) .body) (Whole (NChar n))
+    at : Dec (n < 256) → Dec (n ≡ 256) →
+        Reading false ((nCharCharacter n) .flag) ((nCharCharacter n) .body) (Whole (NChar n))
     at (yes lower) e = rw (lt-ltb n 256 lower) (byte-reading n lower)
     at (no d) (yes e) = rw e eop
     at (no d) (no d′) =
@@ -91,12 +91,14 @@ token-run : {w : Waiting} {d : Decoder} {rs : List Report} (t : Token) (rest : L
     Run (Heard (Between (Whole t)) 0) rest rs d →
     Run (Heard (Between w) 0) (wireOf (bodyOdd w) t ++ rest) (said (closes w) ++ rs) d
 token-run Null rest h passes plain run =
-    sent-run escCharacter (fctCharacter ∷ []) rest passes (unescaped plain esc) (sent-run fctCharacter [] rest refl null run)
+    sent-run escCharacter (fctCharacter ∷ []) rest passes (unescaped plain esc)
+    (sent-run fctCharacter [] rest refl null run)
 token-run Fct rest h passes plain run = sent-run fctCharacter [] rest passes (unescaped plain fct) run
 token-run (NChar n) rest h passes plain run =
     sent-run (nCharCharacter n) [] rest passes (unescaped plain (n-char-reading n h)) run
 token-run (TimeCode v) rest h passes plain run =
-    sent-run escCharacter (data8 v ∷ []) rest passes (unescaped plain esc) (sent-run (data8 v) [] rest refl (time-reading v h) run)
+    sent-run escCharacter (data8 v ∷ []) rest passes (unescaped plain esc)
+    (sent-run (data8 v) [] rest refl (time-reading v h) run)
 
 -- of the tokens behind one that waits, and that one, all but the last are reported
 tokens-run : (t : Token) (ts : List Token) → IsToken t → AreTokens ts →

@@ -1,15 +1,12 @@
 -- What a rule says is reported on the last of some bits, the decoder reports there: the bits up to a whole character leave it
 -- between two characters, and from there each rule is a few calls.
 -- Assumes nothing.
-use mathlib.Core.Path.{_≡_, refl, sym, ap, _∙_}
+use mathlib.Core.Path.{_≡_, refl, ap, _∙_}
 use mathlib.Core.Bool.{Bool, true, false}
 use mathlib.Core.List.{List, [], _∷_, _++_, append-nil}
-use Prim.Native.Nat.{ℕ, _+_}
 use native.Mathlib.Omega.{arith}
 use lib.ListN.{length, length-append}
 use Rattle.vocabulary.specs.declared.Token.the-variants.{Null}
-use Rattle.characters.specs.Wire.{goodParity}
-use Rattle.characters.specs.Decoder.{bodyOdd}
 use Rattle.characters.specs.declared.decoder.Waiting.{Waiting}
 use Rattle.characters.specs.declared.decoder.Waiting.the-variants.{Reported, Whole, Esc}
 use Rattle.characters.specs.declared.decoder.Phase.the-variants.{Between, Parity}
@@ -17,11 +14,13 @@ use Rattle.characters.specs.declared.decoder.Decoder.{Decoder}
 use Rattle.characters.specs.declared.decoder.Decoder.the-variants.{Fresh, Heard}
 use Rattle.characters.specs.declared.report.Report.{Report}
 use Rattle.characters.specs.declared.report.Report.the-variants.{Got}
-use Rattle.stream.specs.Meaning.{eightBits, FirstNull, TogetherOdd, Ended, first, next, ReportedAt, first-null, closed, bad-parity, bad-escape}
+use Rattle.stream.specs.Meaning.{eightBits, FirstNull, Ended, first, next}
+use Rattle.stream.specs.Meaning.{ReportedAt, first-null, closed, bad-parity, bad-escape}
 use Rattle.stream.specs.Feeding.{after}
 use Rattle.stream.proofs.CallLaws.{parity-comes, flag-closes, flag-spoils, control-comes, second-spoils}
 use Rattle.stream.proofs.ReadingLaws.{ended-passes, ended-parity}
-use Rattle.stream.proofs.RunLaws.{final, after-append, final-behind, final-bit, final-last, run-none, character-run}
+use Rattle.stream.proofs.FeedLaws.{final, final-bit, final-last, after-append, final-behind}
+use Rattle.stream.proofs.RunLaws.{run-none, character-run}
 use Rattle.stream.proofs.HuntLaws.{fresh-hunts, first-null-run}
 
 first-null-found : (bits : List Bool) → FirstNull bits →

@@ -1,8 +1,8 @@
 -- The decoder fed with several bits: what it reports of them and how it is left, one character at a time.
 -- Assumes nothing.
-use mathlib.Core.Path.{_≡_, refl, sym, ap, _∙_}
+use mathlib.Core.Path.{_≡_, refl, ap, _∙_}
 use mathlib.Core.Bool.{Bool, true, false}
-use mathlib.Core.List.{List, [], _∷_, _++_, append-assoc}
+use mathlib.Core.List.{List, [], _∷_, _++_}
 use Prim.Native.Nat.{ℕ, zero, suc, _+_}
 use native.Mathlib.Omega.{arith}
 use lib.ListN.{length, length-append}
@@ -14,63 +14,18 @@ use Rattle.characters.specs.Decoder.{goesOn, hunts, bodyOdd, escaped, closes, b
 use Rattle.characters.specs.Refusals.{badWaiting}
 use Rattle.characters.specs.Calls.{bitAnswer, decodeAccepted}
 use Rattle.characters.specs.declared.decoder.Waiting.{Waiting}
-use Rattle.characters.specs.declared.decoder.Waiting.the-variants.{Reported, Whole, Esc}
+use Rattle.characters.specs.declared.decoder.Waiting.the-variants.{Reported, Whole}
 use Rattle.characters.specs.declared.decoder.Phase.the-variants.{Between, Data, Control}
 use Rattle.characters.specs.declared.decoder.Decoder.{Decoder}
 use Rattle.characters.specs.declared.decoder.Decoder.the-variants.{Fresh, Heard}
-use Rattle.characters.specs.declared.decoder.Decoded.{Decoded}
 use Rattle.characters.specs.declared.report.Report.{Report}
 use Rattle.characters.specs.declared.report.Report.the-variants.{Nothing, Got, ParityError, EscapeError, Disconnect}
 use Rattle.stream.specs.Meaning.{Line, eightBits, Reading, byte, fct, eop, eep, esc, null, time-code}
 use Rattle.stream.specs.Feeding.{lineOf, fed, after}
 use Rattle.stream.specs.RoundTrip.{reportsOf}
 use Rattle.stream.proofs.RegisterLaws.{marked}
-use Rattle.stream.proofs.CallLaws.{Answers, parity-comes, flag-closes, data-comes, data-whole, control-comes, second-whole}
-
--- what is reported on the last bit
-unfoldable pub final : Decoder → List Bool → Report
-final d [] = Nothing
-final d (b ∷ []) = (bitAnswer d b) .report
-final d (b ∷ c ∷ bits) = final ((bitAnswer d b) .decoder) (c ∷ bits)
-
--- one call at the front
-pub after-bit : {d d′ : Decoder} {b : Bool} {r : Report} (bits : List Bool) → Answers d b r d′ → after d (b ∷ bits) ≡ after d′ bits
-unfolding after
-after-bit bits answers = ap (λ (d : Decoder). after d bits) (answers .leaves)
-
-pub after-last : {d d′ : Decoder} {b : Bool} {r : Report} → Answers d b r d′ → after d (b ∷ []) ≡ d′
-unfolding after
-after-last answers = answers .leaves
-
-pub final-bit : {d d′ : Decoder} {b : Bool} {r : Report} (c : Bool) (bits : List Bool) → Answers d b r d′ →
-    final d (b ∷ c ∷ bits) ≡ final d′ (c ∷ bits)
-unfolding final
-final-bit c bits answers = ap (λ (d : Decoder). final d (c ∷ bits)) (answers .leaves)
-
-pub final-last : {d d′ : Decoder} {b : Bool} {r : Report} → Answers d b r d′ → final d (b ∷ []) ≡ r
-unfolding final
-final-last answers = answers .reports
-
--- bits behind others are fed to the decoder that those left
-pub after-append : (d : Decoder) (xs ys : List Bool) → after d (xs ++ ys) ≡ after (after d xs) ys
-unfolding after
-after-append d [] ys = refl
-after-append d (x ∷ xs) ys = after-append ((bitAnswer d x) .decoder) xs ys
-
-pub final-behind : (d : Decoder) (xs : List Bool) (b : Bool) (ys : List Bool) → final d (xs ++ b ∷ ys) ≡ final (after d xs) (b ∷ ys)
-unfolding after final
-final-behind d [] b ys = refl
-final-behind d (x ∷ []) b ys = refl
-final-behind d (x ∷ y ∷ xs) b ys = final-behind ((bitAnswer d x) .decoder) (y ∷ xs) b ys
-
-pub fed-append : (d : Decoder) (n : ℕ) (xs ys : List Bool) → fed d n (xs ++ ys) ≡ fed d n xs ++ fed (after d xs) (n + length xs) ys
-unfolding after fed
-fed-append d n [] ys = ap (λ (m : ℕ). fed d m ys) (omega arith)
-fed-append d n (x ∷ xs) ys =
-    ap (λ (lines : List Line). lineOf n ((bitAnswer d x) .report) ++ lines)
-    (fed-append ((bitAnswer d x) .decoder) (n + 1) xs ys
-    ∙ ap (λ (m : ℕ). fed ((bitAnswer d x) .decoder) (n + 1) xs ++ fed (after ((bitAnswer d x) .decoder) xs) m ys) (omega arith))
-    ∙ sym (append-assoc (lineOf n ((bitAnswer d x) .report)) (fed ((bitAnswer d x) .decoder) (n + 1) xs) _)
+use Rattle.stream.proofs.CallLaws.{Answers, parity-comes, flag-closes, data-comes, data-whole}
+use Rattle.stream.proofs.CallLaws.{control-comes, second-whole}
 
 -- what a call adds to the reports
 abbrev pub said : Report → List Report
@@ -98,7 +53,8 @@ unfolding after fed
 run-bit {bits} {r} answers run =
     record {
       leaves = rw (answers .leaves) (run .leaves);
-      says = λ n. rw (answers .leaves, answers .reports) (reports-append n r _ ∙ ap (λ (s : List Report). said r ++ s) (run .says (n + 1)));
+      says = λ n. rw (answers .leaves, answers .reports)
+          (reports-append n r _ ∙ ap (λ (s : List Report). said r ++ s) (run .says (n + 1)));
     }
 
 data-run : {d : Decoder} {rest : List Bool} {rs : List Report} (escape : Bool) (k : ℕ) (ds xs : List Bool) →
@@ -129,8 +85,8 @@ body-run null run = control-run null run
 body-run (time-code {body} eight) run = data-run true 7 [] body refl eight run
 
 -- a character with good parity: at its flag the one before it is reported, and behind it its own reading waits
-pub character-run : {flag : Bool} {body : List Bool} {w w′ : Waiting} {d : Decoder} {rest : List Bool} {rs : List Report} (p : Bool) →
-    badWaiting w ≡ false → goodParity (bodyOdd w) p flag ≡ true → Reading (escaped w) flag body w′ →
+pub character-run : {flag : Bool} {body : List Bool} {w w′ : Waiting} {d : Decoder} {rest : List Bool} {rs : List Report}
+    (p : Bool) → badWaiting w ≡ false → goodParity (bodyOdd w) p flag ≡ true → Reading (escaped w) flag body w′ →
     Run (Heard (Between w′) 0) rest rs d →
     Run (Heard (Between w) 0) (p ∷ flag ∷ body ++ rest) (said (closes w) ++ rs) d
 character-run {flag} {w} p passes good reading run =

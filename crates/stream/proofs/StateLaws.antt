@@ -9,10 +9,8 @@ use native.Mathlib.Omega.{arith}
 use native.Mathlib.Decide.{decLt}
 use lib.ListN.{length, take, length-append}
 use lib.Seq.{append-snoc, take-append-le, take-all, take-nil}
-use Rattle.vocabulary.specs.declared.Token.the-variants.{Null}
 use Rattle.characters.specs.Bits.{odd, number}
-use Rattle.characters.specs.Wire.{goodParity}
-use Rattle.characters.specs.Decoder.{bodyOdd, escaped, closes, bodyOf, dataToken}
+use Rattle.characters.specs.Decoder.{escaped, closes, bodyOf, dataToken}
 use Rattle.characters.specs.Calls.{bitAnswer}
 use Rattle.characters.specs.declared.decoder.Waiting.{Waiting}
 use Rattle.characters.specs.declared.decoder.Waiting.the-variants.{Reported, Whole, Esc}
@@ -22,14 +20,15 @@ use Rattle.characters.specs.declared.decoder.Decoder.the-variants.{Fresh, Heard
 use Rattle.characters.specs.declared.decoder.Decoded.{Decoded}
 use Rattle.characters.specs.declared.report.Report.{Report}
 use Rattle.characters.specs.declared.report.Report.the-variants.{Nothing, Got, ParityError, EscapeError, Disconnect}
-use Rattle.stream.specs.Meaning.{eightBits, EndIn8, FirstNull, TogetherOdd, Reading, byte, fct, eop, eep, esc, null, time-code}
+use Rattle.stream.specs.Meaning.{eightBits, EndIn8, FirstNull, TogetherOdd}
+use Rattle.stream.specs.Meaning.{Reading, byte, fct, eop, eep, esc, null, time-code}
 use Rattle.stream.specs.Meaning.{Ended, first, next, ReportedAt, first-null, closed, bad-parity, bad-escape}
 use Rattle.stream.specs.Feeding.{after}
 use Rattle.stream.proofs.RegisterLaws.{marked}
 use Rattle.stream.proofs.CallLaws.{Answers, parity-comes, flag-closes, flag-spoils, data-comes, data-whole}
 use Rattle.stream.proofs.CallLaws.{control-comes, second-whole, second-spoils, stopped-stays}
 use Rattle.stream.proofs.ReadingLaws.{unescaped, ended-passes, ended-parity}
-use Rattle.stream.proofs.RunLaws.{final, after-append, final-behind}
+use Rattle.stream.proofs.FeedLaws.{final, after-append, final-behind}
 use Rattle.stream.proofs.HuntLaws.{Hunts, fresh-hunts, hunt-decides, hunt-ends, hunt-goes-on, still-hunts}
 
 -- the eight bits have not yet come
@@ -81,7 +80,8 @@ none-still {bits} b none other k le = by (decLt k (length (bits ++ b ∷ [])))
     by (yes lt) found = none-before b none k lt found
     by (no all) found = other (rw (take-all k (bits ++ b ∷ []) (omega (arith, all))) at found)
 
-hunt-keeps : {bits : List Bool} {d : Decoder} → Hunts bits d → NoneYet bits → (b : Bool) → Keeps (bits ++ b ∷ []) (bitAnswer d b)
+hunt-keeps : {bits : List Bool} {d : Decoder} → Hunts bits d → NoneYet bits → (b : Bool) →
+    Keeps (bits ++ b ∷ []) (bitAnswer d b)
 hunt-keeps {bits} {d} h none b = by (hunt-decides h b)
   where
     by : Dec (EndIn8 (bits ++ b ∷ [])) → Keeps (bits ++ b ∷ []) (bitAnswer d b)
@@ -105,7 +105,8 @@ flag-keeps : {bits body : List Bool} {w : Waiting} (p flag : Bool) → Ended bit
     Keeps (bits ++ p ∷ flag ∷ []) (bitAnswer (Heard (Parity w p) 0) flag)
 flag-keeps {bits} {body} {w} p flag ended = by (odd (body ++ p ∷ flag ∷ [])) refl
   where
-    by : (t : Bool) → odd (body ++ p ∷ flag ∷ []) ≡ t → Keeps (bits ++ p ∷ flag ∷ []) (bitAnswer (Heard (Parity w p) 0) flag)
+    by : (t : Bool) → odd (body ++ p ∷ flag ∷ []) ≡ t →
+        Keeps (bits ++ p ∷ flag ∷ []) (bitAnswer (Heard (Parity w p) 0) flag)
     by true good =
         keeps (flag-closes w p flag (ended-passes ended) (ended-parity p flag ended ∙ good))
         (announced p flag ended good) (closing-given w p flag ended good)
@@ -113,7 +114,8 @@ flag-keeps {bits} {body} {w} p flag ended = by (odd (body ++ p ∷ flag ∷ []))
         keeps (flag-spoils w p flag (ended-passes ended) (ended-parity p flag ended ∙ bad)) stopped
         (bad-parity p flag ended (λ good. true≢false (sym good ∙ bad)))
 
-eight-read : (escape : Bool) (body : List Bool) → length body ≡ 8 → Reading escape false body (Whole (dataToken escape (number body)))
+eight-read : (escape : Bool) (body : List Bool) → length body ≡ 8 →
+    Reading escape false body (Whole (dataToken escape (number body)))
 eight-read true body eight = time-code eight
 eight-read false body eight = byte eight
 
@@ -122,7 +124,8 @@ byte-keeps : {bits body : List Bool} {w : Waiting} (p : Bool) (k : ℕ) (ds : Li
     Keeps (bits ++ p ∷ false ∷ (ds ++ b ∷ [])) (bitAnswer (Heard (Data (escaped w) (number (marked k ds))) 0) b)
 byte-keeps {w} p zero ds b ended good seven =
     keeps (data-whole (escaped w) ds b (omega arith))
-    (between (next p false ended good (eight-read (escaped w) (ds ++ b ∷ []) (omega (arith, length-append ds (b ∷ [])))))) tt
+    (between
+    (next p false ended good (eight-read (escaped w) (ds ++ b ∷ []) (omega (arith, length-append ds (b ∷ [])))))) tt
 byte-keeps {w} p (suc k) ds b ended good seven =
     keeps (data-comes (escaped w) k ds b seven)
     (in-byte p k (ds ++ b ∷ []) ended good (omega (arith, length-append ds (b ∷ [])))) tt
@@ -150,7 +153,8 @@ second-keeps : {bits body : List Bool} (w : Waiting) (p a b : Bool) → Ended bi
 second-keeps Reported p a b ended good = second-plain p a b ended good refl
 second-keeps (Whole t) p a b ended good = second-plain p a b ended good refl
 second-keeps Esc p false false ended good = second-read p false false ended good null
-second-keeps Esc p false true ended good = second-spoilt p false true ended good (λ e. true≢false (head-eq-of-cons-eq (tail-eq-of-cons-eq e)))
+second-keeps Esc p false true ended good =
+    second-spoilt p false true ended good (λ e. true≢false (head-eq-of-cons-eq (tail-eq-of-cons-eq e)))
 second-keeps Esc p true b ended good = second-spoilt p true b ended good (λ e. true≢false (head-eq-of-cons-eq e))
 
 next-keeps : {bits : List Bool} {d : Decoder} → At bits d → (b : Bool) → Keeps (bits ++ b ∷ []) (bitAnswer d b)
