@@ -22,6 +22,7 @@ use Rattle.characters.specs.declared.decoder.Decoder.{Decoder}
 use Rattle.characters.specs.declared.decoder.Decoder.the-variants.{Fresh, Heard, Stopped}
 use Rattle.characters.specs.declared.decoder.Decoded.{Decoded}
 use Rattle.characters.specs.declared.decoder.Step.{Step}
+use Rattle.stream.specs.Feeding.{after}
 use Rattle.stream.specs.GoodStates.{Good, EightPlaces, Call, bit, tick, left, leftAll, StaysGood}
 
 -- what holds of both sides of a choice, of each where its test lets it be taken, holds of the choice
@@ -139,3 +140,8 @@ all-good d (call ∷ calls) g = all-good (left d call) calls (left-good d call g
 
 pub stays-good : StaysGood
 stays-good = (record { passes = refl; places = tt }, all-good)
+
+pub after-good : (d : Decoder) (bits : List Bool) → Good d → Good (after d bits)
+unfolding after
+after-good d [] g = g
+after-good d (b ∷ bits) g = after-good ((bitAnswer d b) .decoder) bits (left-good d (bit b) g)

@@ -1,5 +1,6 @@
 pub mod CaseProofs
 pub mod GoodStateLaws
+pub mod LastLaws
 pub mod RegisterLaws
 pub mod CallLaws
 pub mod FeedLaws
@@ -10,3 +11,6 @@ pub mod HuntLaws
 pub mod RuleLaws
 pub mod StateLaws
 pub mod MeaningProofs
+pub mod SilenceLaws
+pub mod TickLaws
+pub mod TickProofs

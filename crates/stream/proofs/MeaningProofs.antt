@@ -13,9 +13,10 @@ use Rattle.characters.specs.declared.report.Report.the-variants.{Nothing, Got, 
 use Rattle.stream.specs.Meaning.{ReportedAt, first-null, closed, bad-parity, bad-escape}
 use Rattle.stream.specs.Meaning.{Line, Lists, none, silent, spoken}
 use Rattle.stream.specs.Feeding.{lineOf, fed, SaysWhatIsMeant, MeansOneThing}
+use Rattle.stream.proofs.LastLaws.{by-last}
 use Rattle.stream.proofs.FeedLaws.{final, final-behind, fed-append}
 use Rattle.stream.proofs.RuleLaws.{reported}
-use Rattle.stream.proofs.StateLaws.{Given, by-last, reports-given}
+use Rattle.stream.proofs.StateLaws.{Given, reports-given}
 
 -- the lines of one bit more
 fed-last : (bits : List Bool) (b : Bool) →
@@ -66,7 +67,8 @@ lists-fed none = refl
 lists-fed (silent {bits} b lists other) =
     lists-fed lists
     ∙ sym
-    (fed-last bits b ∙ rw (quiet (final Fresh (bits ++ b ∷ [])) (reports-given bits b) other) (append-nil (fed Fresh 1 bits)))
+    (fed-last bits b
+    ∙ rw (quiet (final Fresh (bits ++ b ∷ [])) (reports-given bits b) other) (append-nil (fed Fresh 1 bits)))
 lists-fed (spoken {bits} b {r} lists h) =
     rw (lists-fed lists, ← makes-line (length bits + 1) h, ← reported h) (sym (fed-last bits b))
 

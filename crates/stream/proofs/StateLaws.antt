@@ -14,7 +14,8 @@ use Rattle.characters.specs.Decoder.{escaped, closes, bodyOf, dataToken}
 use Rattle.characters.specs.Calls.{bitAnswer}
 use Rattle.characters.specs.declared.decoder.Waiting.{Waiting}
 use Rattle.characters.specs.declared.decoder.Waiting.the-variants.{Reported, Whole, Esc}
-use Rattle.characters.specs.declared.decoder.Phase.the-variants.{Between, Parity, Data, Control, Second}
+use Rattle.characters.specs.declared.decoder.Phase.{Phase}
+use Rattle.characters.specs.declared.decoder.Phase.the-variants.{Hunting, Between, Parity, Data, Control, Second}
 use Rattle.characters.specs.declared.decoder.Decoder.{Decoder}
 use Rattle.characters.specs.declared.decoder.Decoder.the-variants.{Fresh, Heard, Stopped}
 use Rattle.characters.specs.declared.decoder.Decoded.{Decoded}
@@ -24,6 +25,8 @@ use Rattle.stream.specs.Meaning.{eightBits, EndIn8, FirstNull, TogetherO
 use Rattle.stream.specs.Meaning.{Reading, byte, fct, eop, eep, esc, null, time-code}
 use Rattle.stream.specs.Meaning.{Ended, first, next, ReportedAt, first-null, closed, bad-parity, bad-escape}
 use Rattle.stream.specs.Feeding.{after}
+use Rattle.stream.specs.Ticks.{isError, Failed}
+use Rattle.stream.proofs.LastLaws.{by-last}
 use Rattle.stream.proofs.RegisterLaws.{marked}
 use Rattle.stream.proofs.CallLaws.{Answers, parity-comes, flag-closes, flag-spoils, data-comes, data-whole}
 use Rattle.stream.proofs.CallLaws.{control-comes, second-whole, second-spoils, stopped-stays}
@@ -37,7 +40,9 @@ NoneYet bits = (k : ℕ) → k ≤ length bits → EndIn8 (take k bits) → ⊥
 
 -- `At bits d`: d is the state in which these bits leave a fresh decoder, told by the rules
 pub data At : List Bool → Decoder → Type 0 where
-  hunting : {bits : List Bool} {d : Decoder} → Hunts bits d → NoneYet bits → At bits d
+  fresh : At [] Fresh
+  hunting : {bits : List Bool} {places : ℕ} → Hunts bits (Heard (Hunting places) 0) → NoneYet bits →
+      At bits (Heard (Hunting places) 0)
   between : {bits body : List Bool} {w : Waiting} → Ended bits body w → At bits (Heard (Between w) 0)
   parity : {bits body : List Bool} {w : Waiting} (p : Bool) → Ended bits body w → At (bits ++ p ∷ []) (Heard (Parity w p) 0)
   in-byte : {bits body : List Bool} {w : Waiting} (p : Bool) (k : ℕ) (ds : List Bool) →
@@ -47,7 +52,7 @@ pub data At : List Bool → Decoder → Type 0 where
       Ended bits body w → TogetherOdd body p true → At (bits ++ p ∷ true ∷ []) (Heard (Control (escaped w)) 0)
   second : {bits body : List Bool} {w : Waiting} (p a : Bool) →
       Ended bits body w → TogetherOdd body p true → At (bits ++ p ∷ true ∷ a ∷ []) (Heard (Second (escaped w) a) 0)
-  stopped : {bits : List Bool} → At bits Stopped
+  stopped : {bits : List Bool} → Failed bits → At bits Stopped
 
 -- what is reported is given by a rule
 abbrev pub Given : List Bool → Report → Type 0
@@ -65,6 +70,10 @@ record Keeps (bits : List Bool) (a : Decoded) : Type 0 where
 keeps : {bits : List Bool} {d d′ : Decoder} {b : Bool} {r : Report} →
     Answers d b r d′ → At bits d′ → Given bits r → Keeps bits (bitAnswer d b)
 keeps answers at given = record { at = rw (answers .leaves) at; given = rw (answers .reports) given }
+
+none-fresh : NoneYet []
+none-fresh k le (noise, e) =
+    absurd (omega (arith, ap length (sym (take-nil k) ∙ e), length-append noise eightBits))
 
 -- one bit more leaves what came before it, and the bits as they are now
 none-before : {bits : List Bool} (b : Bool) → NoneYet bits → (k : ℕ) → k < length (bits ++ b ∷ []) →
@@ -90,6 +99,14 @@ hunt-keeps {bits} {d} h none b = by (hunt-decides h b)
         keeps (hunt-ends h b found) (between (first null)) (first-null null)
     by (no other) = keeps (hunt-goes-on h b other) (hunting (still-hunts h b other) (none-still b none other)) tt
 
+-- an error on the last bit, and one before it
+failed-now : {bits : List Bool} {r : Report} → ReportedAt bits r → isError r ≡ true → Failed bits
+failed-now {bits} {r} reported error = (bits, [], r, sym (append-nil bits), reported, error)
+
+pub failed-still : (bits more : List Bool) → Failed bits → Failed (bits ++ more)
+failed-still bits more (before, rest, r, e, reported, error) =
+    (before, rest ++ more, r, ap (λ (l : List Bool). l ++ more) e ∙ append-assoc before rest more, reported, error)
+
 closing-given : {bits body : List Bool} (w : Waiting) (p flag : Bool) → Ended bits body w → TogetherOdd body p flag →
     Given (bits ++ p ∷ flag ∷ []) (closes w)
 closing-given Reported p flag ended good = tt
@@ -111,8 +128,9 @@ flag-keeps {bits} {body} {w} p flag ended = by (odd (body ++ p ∷ flag ∷ []))
         keeps (flag-closes w p flag (ended-passes ended) (ended-parity p flag ended ∙ good))
         (announced p flag ended good) (closing-given w p flag ended good)
     by false bad =
-        keeps (flag-spoils w p flag (ended-passes ended) (ended-parity p flag ended ∙ bad)) stopped
-        (bad-parity p flag ended (λ good. true≢false (sym good ∙ bad)))
+        let error = bad-parity p flag ended (λ good. true≢false (sym good ∙ bad)) in
+        keeps (flag-spoils w p flag (ended-passes ended) (ended-parity p flag ended ∙ bad))
+        (stopped (failed-now error refl)) error
 
 eight-read : (escape : Bool) (body : List Bool) → length body ≡ 8 →
     Reading escape false body (Whole (dataToken escape (number body)))
@@ -146,7 +164,9 @@ second-plain p true true ended good plain = second-read p true true ended good (
 second-spoilt : {bits body : List Bool} (p a b : Bool) → Ended bits body Esc → TogetherOdd body p true →
     ((a ∷ b ∷ []) ≡ (false ∷ false ∷ []) → ⊥) →
     Keeps (bits ++ p ∷ true ∷ a ∷ b ∷ []) (bitAnswer (Heard (Second true a) 0) b)
-second-spoilt p a b ended good other = keeps (second-spoils a b other) stopped (bad-escape p a b ended good other)
+second-spoilt p a b ended good other =
+    let error = bad-escape p a b ended good other in
+    keeps (second-spoils a b other) (stopped (failed-now error refl)) error
 
 second-keeps : {bits body : List Bool} (w : Waiting) (p a b : Bool) → Ended bits body w → TogetherOdd body p true →
     Keeps (bits ++ p ∷ true ∷ a ∷ b ∷ []) (bitAnswer (Heard (Second (escaped w) a) 0) b)
@@ -158,6 +178,7 @@ second-keeps Esc p false true ended good =
 second-keeps Esc p true b ended good = second-spoilt p true b ended good (λ e. true≢false (head-eq-of-cons-eq e))
 
 next-keeps : {bits : List Bool} {d : Decoder} → At bits d → (b : Bool) → Keeps (bits ++ b ∷ []) (bitAnswer d b)
+next-keeps fresh b = hunt-keeps fresh-hunts none-fresh b
 next-keeps (hunting h none) b = hunt-keeps h none b
 next-keeps (between {w} ended) b = keeps (parity-comes w b (ended-passes ended)) (parity b ended) tt
 next-keeps (parity {bits} p ended) b = rw append-snoc (flag-keeps p b ended)
@@ -167,28 +188,33 @@ next-keeps (control {bits} {w} p ended good) b =
     rw (append-assoc bits (p ∷ true ∷ []) (b ∷ [])) (keeps (control-comes (escaped w) b) (second p b ended good) tt)
 next-keeps (second {bits} {w} p a ended good) b =
     rw (append-assoc bits (p ∷ true ∷ a ∷ []) (b ∷ [])) (second-keeps w p a b ended good)
-next-keeps stopped b = keeps (stopped-stays b) stopped tt
+next-keeps (stopped {bits} failed) b = keeps (stopped-stays b) (stopped (failed-still bits (b ∷ []) failed)) tt
 
-none-fresh : NoneYet []
-none-fresh k le (noise, e) =
-    absurd (omega (arith, ap length (sym (take-nil k) ∙ e), length-append noise eightBits))
-
--- what holds before the first bit, and of one bit more where it held without it, holds of all bits
-pub by-last : (P : List Bool → Type 0) → P [] → ((bits : List Bool) (b : Bool) → P bits → P (bits ++ b ∷ [])) →
-    (bits : List Bool) → P bits
-by-last P start more bits = from [] start bits
-  where
-    from : (seen : List Bool) → P seen → (bits : List Bool) → P (seen ++ bits)
-    from seen h [] = rw append-nil h
-    from seen h (b ∷ bits) = rw append-snoc at (from (seen ++ b ∷ []) (more seen b h) bits)
-
-reached : (bits : List Bool) → At bits (after Fresh bits)
+pub reached : (bits : List Bool) → At bits (after Fresh bits)
 unfolding after
 reached =
-    by-last (λ (bits : List Bool). At bits (after Fresh bits)) (hunting fresh-hunts none-fresh)
+    by-last (λ (bits : List Bool). At bits (after Fresh bits)) fresh
     (λ bits b h. rw (after-append Fresh bits (b ∷ [])) ((next-keeps h b) .at))
 
 -- on each bit, what the decoder reports is given by a rule
 pub reports-given : (bits : List Bool) (b : Bool) → Given (bits ++ b ∷ []) (final Fresh (bits ++ b ∷ []))
 unfolding final
 reports-given bits b = rw (final-behind Fresh bits b []) ((next-keeps (reached bits) b) .given)
+
+-- a stopped decoder has reported an error; of others, one that had a bit has heard it just now
+pub stopped-failed : {bits : List Bool} → At bits Stopped → Failed bits
+stopped-failed (stopped failed) = failed
+
+pub data Bitten : Decoder → Type 0 where
+  going : (p : Phase) → Bitten (Heard p 0)
+  gone : Bitten Stopped
+
+pub at-bitten : {bits : List Bool} {d : Decoder} → At bits d → (bits ≡ [] → ⊥) → Bitten d
+at-bitten fresh some = absurd (some refl)
+at-bitten (hunting h none) some = going _
+at-bitten (between ended) some = going _
+at-bitten (parity p ended) some = going _
+at-bitten (in-byte p k ds ended good seven) some = going _
+at-bitten (control p ended good) some = going _
+at-bitten (second p a ended good) some = going _
+at-bitten (stopped failed) some = gone

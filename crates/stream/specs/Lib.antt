@@ -3,3 +3,4 @@ pub mod Feeding
 pub mod RoundTrip
 pub mod GoodStates
 pub mod Cases
+pub mod Ticks
