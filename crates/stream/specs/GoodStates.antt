@@ -3,14 +3,9 @@
 use mathlib.Core.Path.{_≡_}
 use mathlib.Core.Bool.{Bool, false}
 use mathlib.Core.List.{List, [], _∷_}
-use Prim.Native.Nat.{ℕ, _<_}
-use Rattle.vocabulary.specs.declared.Token.{Token}
-use Rattle.vocabulary.specs.declared.Token.the-variants.{Null, Fct, NChar, TimeCode}
+use Prim.Native.Nat.{_<_}
 use Rattle.characters.specs.Refusals.{badDecoder}
 use Rattle.characters.specs.Calls.{bitAnswer, tickAnswer}
-use Rattle.characters.specs.declared.decoder.Waiting.{Waiting}
-use Rattle.characters.specs.declared.decoder.Waiting.the-variants.{Reported, Whole, Esc}
-use Rattle.characters.specs.declared.decoder.Phase.{Phase}
 use Rattle.characters.specs.declared.decoder.Phase.the-variants.{Hunting, Between, Parity, Data, Control, Second}
 use Rattle.characters.specs.declared.decoder.Decoder.{Decoder}
 use Rattle.characters.specs.declared.decoder.Decoder.the-variants.{Fresh, Heard, Stopped}
