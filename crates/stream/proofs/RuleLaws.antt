@@ -38,17 +38,17 @@ ended-after (next {bits} {body} {body′} {w} p flag ended good reading) =
     ∙ rw (ended-after ended, ← append-nil body′)
     ((character-run p (ended-passes ended) (ended-parity p flag ended ∙ good) reading run-none) .leaves)
 
-after-behind : {bits body : List Bool} {w : Waiting} (p : Bool) (rest : List Bool) → Ended bits body w →
+-- a parity bit and what is behind it come to a decoder that holds what waits
+after-ended : {bits body : List Bool} {w : Waiting} (p : Bool) (rest : List Bool) → Ended bits body w →
     after Fresh (bits ++ p ∷ rest) ≡ after (Heard (Parity w p) 0) rest
-after-behind {bits} {w} p rest ended =
+after-ended {bits} {w} p rest ended =
     after-append Fresh bits (p ∷ rest)
     ∙ ap (λ (d : Decoder). after d (p ∷ rest)) (ended-after ended)
     ∙ after-bit rest (parity-comes w p (ended-passes ended))
 
--- a parity bit and what is behind it come to a decoder that holds what waits
-behind-ended : {bits body : List Bool} {w : Waiting} (p c : Bool) (rest : List Bool) → Ended bits body w →
+final-ended : {bits body : List Bool} {w : Waiting} (p c : Bool) (rest : List Bool) → Ended bits body w →
     final Fresh (bits ++ p ∷ c ∷ rest) ≡ final (Heard (Parity w p) 0) (c ∷ rest)
-behind-ended {bits} {w} p c rest ended =
+final-ended {bits} {w} p c rest ended =
     final-behind Fresh bits p (c ∷ rest)
     ∙ ap (λ (d : Decoder). final d (p ∷ c ∷ rest)) (ended-after ended)
     ∙ final-bit c rest (parity-comes w p (ended-passes ended))
@@ -60,13 +60,13 @@ not-true false other = refl
 pub reported : {bits : List Bool} {r : Report} → ReportedAt bits r → final Fresh bits ≡ r
 reported (first-null {bits} null) = (first-null-found bits null) .1
 reported (closed {t} p flag ended good) =
-    behind-ended p flag [] ended
+    final-ended p flag [] ended
     ∙ final-last (flag-closes (Whole t) p flag (ended-passes ended) (ended-parity p flag ended ∙ good))
 reported (bad-parity {body} {w} p flag ended bad) =
-    behind-ended p flag [] ended
+    final-ended p flag [] ended
     ∙ final-last (flag-spoils w p flag (ended-passes ended) (ended-parity p flag ended ∙ not-true _ bad))
 reported (bad-escape p a b ended good other) =
-    behind-ended p true (a ∷ b ∷ []) ended
+    final-ended p true (a ∷ b ∷ []) ended
     ∙ final-bit a (b ∷ []) (flag-closes Esc p true refl (ended-parity p true ended ∙ good))
     ∙ final-bit b [] (control-comes true a)
     ∙ final-last (second-spoils a b other)
@@ -76,10 +76,10 @@ error-stops : {bits : List Bool} {r : Report} → ReportedAt bits r → isError 
 error-stops (first-null null) error = absurd (true≢false (sym error))
 error-stops (closed p flag ended good) error = absurd (true≢false (sym error))
 error-stops (bad-parity {bits} {w} p flag ended bad) error =
-    after-behind p (flag ∷ []) ended
+    after-ended p (flag ∷ []) ended
     ∙ after-last (flag-spoils w p flag (ended-passes ended) (ended-parity p flag ended ∙ not-true _ bad))
 error-stops (bad-escape p a b ended good other) error =
-    after-behind p (true ∷ a ∷ b ∷ []) ended
+    after-ended p (true ∷ a ∷ b ∷ []) ended
     ∙ after-bit (a ∷ b ∷ []) (flag-closes Esc p true refl (ended-parity p true ended ∙ good))
     ∙ after-bit (b ∷ []) (control-comes true a)
     ∙ after-last (second-spoils a b other)

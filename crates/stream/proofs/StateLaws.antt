@@ -75,7 +75,7 @@ none-fresh : NoneYet []
 none-fresh k le (noise, e) =
     absurd (omega (arith, ap length (sym (take-nil k) ∙ e), length-append noise eightBits))
 
--- one bit more leaves what came before it, and the bits as they are now
+-- with one bit more the list has the beginnings that it had, and the whole
 none-before : {bits : List Bool} (b : Bool) → NoneYet bits → (k : ℕ) → k < length (bits ++ b ∷ []) →
     EndIn8 (take k (bits ++ b ∷ [])) → ⊥
 none-before {bits} b none k lt found =
