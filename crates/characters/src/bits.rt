@@ -1,7 +1,6 @@
 // Single bits, and the ones in a body.
 ghost use mathlib.Core.Path.{_≡_};
 ghost use mathlib.Core.Bool.{false};
-ghost use Rattle.vocabulary.specs.declared.Token.{Token};
 ghost use Rattle.characters.specs.Bits.{bit, differ, odd, bitsOf};
 ghost use Rattle.characters.specs.Wire.{charactersOf, lastOdd, nCharCharacter};
 use vocabulary::Token;

@@ -1,8 +1,9 @@
 // Bits to reports (01, Characters on the wire, Decoder).
 ghost use mathlib.Core.Path.{_≡_};
 ghost use mathlib.Core.Bool.{true};
-ghost use Rattle.vocabulary.specs.declared.Token.{Token};
-ghost use Rattle.characters.specs.Decoder.{goesOn, stops, shifted, hunts, bodyOdd, closes, escaped, bodyOf, flagged, dataToken, dataBit, plain, secondBit, inPhase, bitStep, silence, tickStep};
+ghost use Rattle.characters.specs.Decoder.{goesOn, stops, shifted, hunts, bodyOdd, closes, escaped, bodyOf};
+ghost use Rattle.characters.specs.Decoder.{flagged, dataToken, dataBit, plain, secondBit, inPhase, bitStep};
+ghost use Rattle.characters.specs.Decoder.{silence, tickStep};
 ghost use Rattle.characters.specs.Refusals.{badWaiting, badPhase, badDecoder, isStopped, decoderRefusal};
 ghost use Rattle.characters.specs.Calls.{bitAnswer, tickAnswer, decodeRefused, decodeAccepted};
 use crate::bits;

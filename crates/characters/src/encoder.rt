@@ -1,7 +1,6 @@
 // Tokens to bits (01, Characters on the wire, Encoder).
 ghost use mathlib.Core.Path.{_≡_};
 ghost use mathlib.Core.Bool.{true};
-ghost use Prim.Native.Nat.{_+_};
 ghost use lib.ListN.{length};
 ghost use Rattle.vocabulary.specs.declared.Token.{Token};
 ghost use Rattle.characters.specs.Bits.{number};

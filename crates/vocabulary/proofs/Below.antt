@@ -2,11 +2,13 @@
 -- Assumes nothing.
 use mathlib.Core.Path.{_≡_, refl, sym, subst}
 use mathlib.Core.Bool.{Bool, true, false}
+use mathlib.Core.List.{List, [], _∷_}
 use Prim.Native.Nat.{ℕ, zero, suc, _<_}
-use native.Mathlib.Nat.{not-suc-le-zero}
+use native.Mathlib.Nat.{not-suc-le-zero, le-of-suc-le-suc}
 use native.Mathlib.Omega.{arith}
 use native.Mathlib.Decide.{ℕ-discrete}
 use lib.Dec.{T}
+use lib.ListN.{length, getD}
 
 abbrev pub both : Bool → Bool → Bool
 both true b = b
@@ -44,3 +46,13 @@ same-eq true true t = refl
 same-eq true false t = absurd t
 same-eq false true t = absurd t
 same-eq false false t = refl
+
+-- The same for the members of a list, of any type.
+abbrev pub each : {A : Type 0} → (A → Bool) → List A → Bool
+each f [] = true
+each f (x ∷ xs) = both (f x) (each f xs)
+
+pub each-at : {A : Type 0} (f : A → Bool) (xs : List A) (d : A) → T (each f xs) → (k : ℕ) → k < length xs → T (f (getD xs k d))
+each-at f [] d t k h = absurd (not-suc-le-zero h)
+each-at f (x ∷ xs) d t zero h = both-left (f x) (each f xs) t
+each-at f (x ∷ xs) d t (suc k) h = each-at f xs d (both-right (f x) (each f xs) t) k (le-of-suc-le-suc h)

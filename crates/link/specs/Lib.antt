@@ -1,0 +1,11 @@
+pub mod Ends
+pub mod Moves
+pub mod Table
+pub mod Credit
+pub mod Received
+pub mod Send
+pub mod Recovery
+pub mod Reset
+pub mod Hosts
+pub mod Refusals
+pub mod Calls
