@@ -2,9 +2,9 @@
 -- Assumes nothing.
 use Prim.Native.Nat.{ℕ}
 use mathlib.Core.Bool.{Bool, true, false, not, _||_}
-use mathlib.Core.List.{[], _∷_}
+use mathlib.Core.List.{List, [], _∷_}
 use lib.Dec.{eqb, ltb}
-use Rattle.vocabulary.specs.Refusals.{STATE, CHAR, STOPPED, test, firstOf}
+use Rattle.vocabulary.specs.Refusals.{STATE, CHAR, STOPPED, Test, test, firstOf}
 use Rattle.vocabulary.specs.Tokens.{badChar}
 use Rattle.vocabulary.specs.declared.Token.{Token}
 use Rattle.characters.specs.Decoder.{huntedFor}
@@ -43,10 +43,16 @@ isStopped Fresh = false
 isStopped (Heard p silent) = false
 isStopped Stopped = true
 
--- what a bit or a tick is refused for: "7 STOPPED: bit or tick to a stopped decoder"
-abbrev pub decoderRefusal : Decoder → ℕ
-decoderRefusal d = firstOf (test STATE (badDecoder d) ∷ test STOPPED (isStopped d) ∷ [])
+-- what a bit or a tick is tested for: "7 STOPPED: bit or tick to a stopped decoder"
+abbrev pub decoderTests : Decoder → List Test
+decoderTests d = test STATE (badDecoder d) ∷ test STOPPED (isStopped d) ∷ []
 
--- what a token to encode is refused for
+abbrev pub decoderRefusal : Decoder → ℕ
+decoderRefusal d = firstOf (decoderTests d)
+
+-- what a token to encode is tested for
+abbrev pub encoderTests : Token → List Test
+encoderTests t = test CHAR (badChar t) ∷ []
+
 abbrev pub encoderRefusal : Token → ℕ
-encoderRefusal t = firstOf (test CHAR (badChar t) ∷ [])
+encoderRefusal t = firstOf (encoderTests t)

@@ -4,9 +4,9 @@
 -- Assumes nothing.
 use Prim.Native.Nat.{ℕ, _+_}
 use mathlib.Core.Bool.{Bool, not, _||_, _&&_}
-use mathlib.Core.List.{[], _∷_}
+use mathlib.Core.List.{List, [], _∷_}
 use lib.Dec.{leb, ltb, eqb}
-use Rattle.vocabulary.specs.Refusals.{STATE, STORE, CHAR, NOTRUN, EMPTY, FULL, test, firstOf}
+use Rattle.vocabulary.specs.Refusals.{STATE, STORE, CHAR, NOTRUN, EMPTY, FULL, Test, test, firstOf}
 use Rattle.vocabulary.specs.NChars.{aboveEEP}
 use Rattle.vocabulary.specs.Tokens.{badChar}
 use Rattle.vocabulary.specs.declared.Token.{Token}
@@ -53,45 +53,57 @@ abbrev pub badReceive : ℕ → Link → Bool
 badReceive size l = badStore size (l .rx) || lacksRoom size l
 
 -- tick, fault, control change, send, reset
-abbrev pub bothRefusal : ℕ → ℕ → Link → ℕ
-bothRefusal rx tx l =
-    firstOf
-    (test STATE (badRecord l)
+abbrev pub bothTests : ℕ → ℕ → Link → List Test
+bothTests rx tx l =
+    test STATE (badRecord l)
     ∷ test STORE (badRxSize rx || badTxSize tx)
     ∷ test STATE (badReceive rx l || badStore tx (l .tx))
-    ∷ [])
+    ∷ []
+
+abbrev pub bothRefusal : ℕ → ℕ → Link → ℕ
+bothRefusal rx tx l = firstOf (bothTests rx tx l)
 
 -- a received token
-abbrev pub receiveRefusal : ℕ → ℕ → Link → Time → Token → ℕ
-receiveRefusal rx tx l time t =
-    firstOf
-    (test STATE (badRecord l || badTime time)
+abbrev pub receiveTests : ℕ → ℕ → Link → Time → Token → List Test
+receiveTests rx tx l time t =
+    test STATE (badRecord l || badTime time)
     ∷ test STORE (badRxSize rx || badTxSize tx)
     ∷ test STATE (badReceive rx l || badStore tx (l .tx))
     ∷ test CHAR (badChar t)
-    ∷ [])
+    ∷ []
+
+abbrev pub receiveRefusal : ℕ → ℕ → Link → Time → Token → ℕ
+receiveRefusal rx tx l time t = firstOf (receiveTests rx tx l time t)
 
 -- "10 FULL: put to a full store that isn't discarding"
-abbrev pub putRefusal : ℕ → Link → ℕ → ℕ
-putRefusal tx l n =
-    firstOf
-    (test STATE (badRecord l)
+abbrev pub putTests : ℕ → Link → ℕ → List Test
+putTests tx l n =
+    test STATE (badRecord l)
     ∷ test STORE (badTxSize tx)
     ∷ test STATE (badStore tx (l .tx))
     ∷ test CHAR (aboveEEP n)
     ∷ test FULL (not (l .marks .discarding) && full tx (l .tx))
-    ∷ [])
+    ∷ []
+
+abbrev pub putRefusal : ℕ → Link → ℕ → ℕ
+putRefusal tx l n = firstOf (putTests tx l n)
 
 -- "9 EMPTY: take from an empty store"
-abbrev pub takeRefusal : ℕ → Link → ℕ
-takeRefusal rx l =
-    firstOf
-    (test STATE (badRecord l)
+abbrev pub takeTests : ℕ → Link → List Test
+takeTests rx l =
+    test STATE (badRecord l)
     ∷ test STORE (badRxSize rx)
     ∷ test STATE (badReceive rx l)
     ∷ test EMPTY (empty (l .rx))
-    ∷ [])
+    ∷ []
+
+abbrev pub takeRefusal : ℕ → Link → ℕ
+takeRefusal rx l = firstOf (takeTests rx l)
 
 -- "8 NOTRUN: Time-Code offered outside Run"
+abbrev pub offerTests : Link → List Test
+offerTests l =
+    test STATE (badRecord l) ∷ test NOTRUN (not (isState (l .stage .state) Run)) ∷ []
+
 abbrev pub offerRefusal : Link → ℕ
-offerRefusal l = firstOf (test STATE (badRecord l) ∷ test NOTRUN (not (isState (l .stage .state) Run)) ∷ [])
+offerRefusal l = firstOf (offerTests l)

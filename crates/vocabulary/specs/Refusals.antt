@@ -1,8 +1,10 @@
 -- 01, The ten refusals: their names, their numbers and the order in which they are tested. They stand here alone.
 -- Assumes nothing.
 use Prim.Native.Nat.{ℕ}
-use mathlib.Core.Bool.{Bool}
+use mathlib.Core.Path.{_≡_}
+use mathlib.Core.Bool.{Bool, true, false}
 use mathlib.Core.List.{List, [], _∷_}
+use lib.Dec.{eqb}
 use Rattle.vocabulary.specs.Choice.{pick}
 
 pub data Refusal : Type 0 where
@@ -38,8 +40,17 @@ firstOf (t ∷ ts) = pick (t .applies) (number (t .refusal)) (firstOf ts)
 abbrev pub order : List Refusal
 order = STATE ∷ STORE ∷ STATE ∷ PORT ∷ ROW ∷ CHAR ∷ ROUNDS ∷ STOPPED ∷ NOTRUN ∷ EMPTY ∷ FULL ∷ []
 
--- `InOrder rs os`: the refusals rs stand in os in this order, each at a place of its own.
-pub data InOrder : List Refusal → List Refusal → Type 0 where
-  done : {os : List Refusal} → InOrder [] os
-  take : {r : Refusal} {rs os : List Refusal} → InOrder rs os → InOrder (r ∷ rs) (r ∷ os)
-  skip : {o : Refusal} {rs os : List Refusal} → InOrder rs os → InOrder rs (o ∷ os)
+-- the refusals of a call's tests, as they are tested
+abbrev pub refusalsOf : List Test → List Refusal
+refusalsOf [] = []
+refusalsOf (t ∷ ts) = t .refusal ∷ refusalsOf ts
+
+-- `inOrder rs order`: the refusals rs stand there in this order, each at a place of its own
+abbrev pub inOrder : List Refusal → List Refusal → Bool
+inOrder [] os = true
+inOrder (r ∷ rs) [] = false
+inOrder (r ∷ rs) (o ∷ os) = pick (eqb (number r) (number o)) (inOrder rs os) (inOrder (r ∷ rs) os)
+
+-- "Tested in this order": what is claimed of each call's tests
+abbrev pub TestedInOrder : List Test → Type 0
+TestedInOrder ts = inOrder (refusalsOf ts) order ≡ true
