@@ -5,20 +5,20 @@ ghost use Rattle.characters.specs.Bits.{bit, differ, odd, bitsOf};
 ghost use Rattle.characters.specs.Wire.{charactersOf, lastOdd, nCharCharacter};
 use vocabulary::Token;
 
-pub fn bit_number(b: bool) -> u8
+pub(crate) fn bit_number(b: bool) -> u8
     ensures { λ r. ⌜ r ≡ bit b ⌝ }
 {
     if b { 1 } else { 0 }
 }
 
-pub fn differ_in(a: bool, b: bool) -> bool
+pub(crate) fn differ_in(a: bool, b: bool) -> bool
     ensures { λ r. ⌜ r ≡ differ a b ⌝ }
 {
     if a { !b } else { b }
 }
 
 // Whether the ones in a data character's body are odd in number: halves are folded onto each other, which keeps that.
-pub fn odd_ones(v: u8) -> bool
+pub(crate) fn odd_ones(v: u8) -> bool
     ensures { λ r. ⌜ r ≡ odd (bitsOf 8 v) ⌝ }
 {
     let four = v ^ (v / 16);
@@ -34,7 +34,7 @@ fn odd_n_char(n: u16) -> bool
 }
 
 // Whether the ones in the body of a token's last character are odd in number.
-pub fn odd_last(t: Token) -> bool
+pub(crate) fn odd_last(t: Token) -> bool
     ensures { λ r. ⌜ r ≡ lastOdd false (charactersOf t) ⌝ }
 {
     match t {

@@ -1,0 +1,5 @@
+pub mod VocabularyAnswers
+pub mod CharactersAnswers
+pub mod StoresAnswers
+pub mod TimeCounterAnswers
+pub mod LinkEndAnswers
