@@ -3,3 +3,4 @@ pub mod CharactersAnswers
 pub mod StoresAnswers
 pub mod TimeCounterAnswers
 pub mod LinkEndAnswers
+pub mod ExactlyProofs

@@ -1,0 +1,53 @@
+-- A call answers 0 where it accepts and the refusal's number where it refuses: one law, cited once for each call. That the tests
+-- stand in the table's order is computed.
+-- Assumes nothing.
+use mathlib.Core.Path.{_≡_, refl}
+use mathlib.Core.Bool.{Bool, true, false}
+use mathlib.Core.List.{List}
+use Prim.Native.Nat.{ℕ}
+use lib.Dec.{eqb}
+use borrow.Author.Tests.{eqb-true}
+use Rattle.vocabulary.specs.Choice.{pick}
+use Rattle.vocabulary.specs.Refusals.{Test, firstOf, TestedInOrder}
+use Rattle.characters.specs.Encoder.{sent}
+use Rattle.characters.specs.Decoder.{bitStep, tickStep}
+use Rattle.characters.specs.Refusals.{decoderTests, encoderTests}
+use Rattle.characters.specs.Calls.{bitAnswer, tickAnswer, encodeAnswer, encodeRefused, decodeAccepted, decodeRefused}
+use Rattle.characters.specs.declared.decoder.Decoded.{Decoded}
+use Rattle.characters.specs.declared.encoder.Encoded.{Encoded}
+use Rattle.link.specs.Calls.{Outcome, refusedWith, answered, accepted, refused, tickOutcome, faultOutcome, controlOutcome, resetOutcome, dispatchOf, dispatched, sendRefused, sendOutcome, receiptOf, received, receiveRefused, tokenAccepted, receiveOutcome, putAnswer, takeAccepted, takeRefused, takeAnswer, offerAccepted, offerAnswer}
+use Rattle.link.specs.declared.Answer.{Answer}
+use Rattle.link.specs.declared.Dispatch.{Dispatch}
+use Rattle.link.specs.declared.Receipt.{Receipt}
+use Rattle.link.specs.declared.Taken.{Taken}
+use Rattle.promises.specs.Exactly.{Exactly, RefusedExactly}
+
+-- what is read off an answer that is accepted where the number is 0, and refused with the number elsewhere, is the number
+told : {A : Type 0} (read : A → ℕ) (n : ℕ) (yea nay : A) → read yea ≡ 0 → read nay ≡ n → read (pick (eqb n 0) yea nay) ≡ n
+told read n yea nay zero number = at (eqb n 0) refl
+  where
+    at : (b : Bool) → eqb n 0 ≡ b → read (pick b yea nay) ≡ n
+    at true e = rw (eqb-true n 0 e) zero
+    at false e = number
+
+pub refused-exactly : RefusedExactly
+unfolding
+    encodeAnswer sent encodeRefused bitAnswer tickAnswer decodeAccepted decodeRefused refusedWith answered accepted refused
+    tickOutcome faultOutcome controlOutcome resetOutcome dispatchOf dispatched sendRefused sendOutcome receiptOf received
+    receiveRefused tokenAccepted receiveOutcome putAnswer takeAccepted takeRefused takeAnswer offerAccepted offerAnswer
+refused-exactly =
+    record {
+      encode = λ e t. record { first = told (λ (a : Encoded). a .refusal) _ _ _ refl refl; ordered = refl };
+      bit = λ d b. record { first = told (λ (a : Decoded). a .refusal) _ _ _ refl refl; ordered = refl };
+      decoder-tick = λ d. record { first = told (λ (a : Decoded). a .refusal) _ _ _ refl refl; ordered = refl };
+      tick = λ e. record { first = told (λ (o : Outcome Answer). o .answer .refusal) _ _ _ refl refl; ordered = refl };
+      fault = λ e f. record { first = told (λ (o : Outcome Answer). o .answer .refusal) _ _ _ refl refl; ordered = refl };
+      control = λ e c. record { first = told (λ (o : Outcome Answer). o .answer .refusal) _ _ _ refl refl; ordered = refl };
+      reset = λ e. record { first = told (λ (o : Outcome Answer). o .answer .refusal) _ _ _ refl refl; ordered = refl };
+      send = λ e. record { first = told (λ (o : Outcome Dispatch). o .answer .refusal) _ _ _ refl refl; ordered = refl };
+      receive =
+          λ e time t. record { first = told (λ (o : Outcome Receipt). o .answer .refusal) _ _ _ refl refl; ordered = refl };
+      put = λ size l n. record { first = told (λ (a : Answer). a .refusal) _ _ _ refl refl; ordered = refl };
+      take = λ rx l. record { first = told (λ (a : Taken). a .refusal) _ _ _ refl refl; ordered = refl };
+      offer = λ l v. record { first = told (λ (a : Answer). a .refusal) _ _ _ refl refl; ordered = refl };
+    }

@@ -1,0 +1,45 @@
+-- "each refusal comes exactly when the table says": the refusal that a call answers is the number of the first of its tests that
+-- applies, 0 where none does, and the tests stand in the table's order.
+-- Assumes nothing.
+use mathlib.Core.Path.{_≡_}
+use mathlib.Core.Bool.{Bool}
+use mathlib.Core.List.{List}
+use Prim.Native.Nat.{ℕ}
+use lib.ListN.{length}
+use Rattle.vocabulary.specs.Refusals.{Test, firstOf, TestedInOrder}
+use Rattle.vocabulary.specs.declared.Token.{Token}
+use Rattle.characters.specs.Refusals.{decoderTests, encoderTests}
+use Rattle.characters.specs.Calls.{bitAnswer, tickAnswer, encodeAnswer}
+use Rattle.characters.specs.declared.decoder.Decoder.{Decoder}
+use Rattle.characters.specs.declared.encoder.Encoder.{Encoder}
+use Rattle.time.specs.declared.Time.{Time}
+use Rattle.link.specs.Ends.{End}
+use Rattle.link.specs.Refusals.{bothTests, receiveTests, putTests, takeTests, offerTests}
+use Rattle.link.specs.Calls.{tickOutcome, faultOutcome, controlOutcome, resetOutcome, sendOutcome, receiveOutcome, putAnswer, takeAnswer, offerAnswer}
+use Rattle.link.specs.declared.Controls.{Controls}
+use Rattle.link.specs.declared.FaultKind.{FaultKind}
+use Rattle.link.specs.declared.Link.{Link}
+
+-- a call that answers this refusal, by these tests
+pub record Exactly (answered : ℕ) (tests : List Test) : Type 0 where
+  pub first : answered ≡ firstOf tests
+  pub ordered : TestedInOrder tests
+
+-- what tick, fault, control, reset and send test of an end
+abbrev pub bothOf : End → List Test
+bothOf e = bothTests (length (e .rx)) (length (e .tx)) (e .link)
+
+pub record RefusedExactly : Type 0 where
+  pub encode : (e : Encoder) (t : Token) → Exactly ((encodeAnswer e t) .refusal) (encoderTests t)
+  pub bit : (d : Decoder) (b : Bool) → Exactly ((bitAnswer d b) .refusal) (decoderTests d)
+  pub decoder-tick : (d : Decoder) → Exactly ((tickAnswer d) .refusal) (decoderTests d)
+  pub tick : (e : End) → Exactly ((tickOutcome e) .answer .refusal) (bothOf e)
+  pub fault : (e : End) (f : FaultKind) → Exactly ((faultOutcome e f) .answer .refusal) (bothOf e)
+  pub control : (e : End) (c : Controls) → Exactly ((controlOutcome e c) .answer .refusal) (bothOf e)
+  pub reset : (e : End) → Exactly ((resetOutcome e) .answer .refusal) (bothOf e)
+  pub send : (e : End) → Exactly ((sendOutcome e) .answer .refusal) (bothOf e)
+  pub receive : (e : End) (time : Time) (t : Token) →
+      Exactly ((receiveOutcome e time t) .answer .refusal) (receiveTests (length (e .rx)) (length (e .tx)) (e .link) time t)
+  pub put : (size : ℕ) (l : Link) (n : ℕ) → Exactly ((putAnswer size l n) .refusal) (putTests size l n)
+  pub take : (rx : List ℕ) (l : Link) → Exactly ((takeAnswer rx l) .refusal) (takeTests (length rx) l)
+  pub offer : (l : Link) (v : ℕ) → Exactly ((offerAnswer l v) .refusal) (offerTests l)
