@@ -68,7 +68,7 @@ table-right s column h =
     let place : k % 10 ≡ column = omega (arith, number-small s) in
     entry-right k (omega (arith, number-small s)) ∙ rw (row, place, state-of-number s)
 
-abbrev events : List Event
+abbrev pub events : List Event
 events = Quiet ∷ Fault ∷ GotFct ∷ GotNChar ∷ GotTimeCode ∷ CreditError ∷ []
 
 for-state : (f : LinkState → Bool) → T (each f states) → (s : LinkState) → T (f s)
@@ -83,47 +83,55 @@ for-event f t GotNChar = each-at f events Quiet t 3 (omega arith)
 for-event f t GotTimeCode = each-at f events Quiet t 4 (omega arith)
 for-event f t CreditError = each-at f events Quiet t 5 (omega arith)
 
-abbrev bits : List Bool
+abbrev pub bits : List Bool
 bits = true ∷ false ∷ []
 
 for-bit : (f : Bool → Bool) → T (each f bits) → (b : Bool) → T (f b)
 for-bit f t true = each-at f bits true t 0 (omega arith)
 for-bit f t false = each-at f bits true t 1 (omega arith)
 
--- the two look-ups and the first move that fits, at one case
-abbrev agree : LinkState → Event → Bool → Bool → Bool → Bool → Bool
-agree s e atLimit enabled exchanged disabled =
-    let c : Conditions = record { atLimit = atLimit; enabled = enabled; exchanged = exchanged; disabled = disabled } in
-    isState (lookedUp s e c) (stateAfter s e c)
+-- A test of a state, an event and the four conditions passes at all 576 cases, so at each.
+abbrev pub Cases : Type 0
+Cases = LinkState → Event → Bool → Bool → Bool → Bool → Bool
 
--- they agree whatever the last condition is, the last two are, and so on up to all 576 cases
-abbrev agree₁ : LinkState → Event → Bool → Bool → Bool → Bool
-agree₁ s e a b c = each (agree s e a b c) bits
+abbrev pub onConditions : (Bool → Bool → Bool → Bool → Bool) → Bool
+onConditions f =
+    each (λ (a : Bool). each (λ (b : Bool). each (λ (c : Bool). each (f a b c) bits) bits) bits) bits
 
-abbrev agree₂ : LinkState → Event → Bool → Bool → Bool
-agree₂ s e a b = each (agree₁ s e a b) bits
+abbrev pub inAllCases : Cases → Bool
+inAllCases f = each (λ (s : LinkState). each (λ (e : Event). onConditions (f s e)) events) states
 
-abbrev agree₃ : LinkState → Event → Bool → Bool
-agree₃ s e a = each (agree₂ s e a) bits
-
-abbrev agree₄ : LinkState → Event → Bool
-agree₄ s e = each (agree₃ s e) bits
-
-abbrev agree₅ : LinkState → Bool
-agree₅ s = each (agree₄ s) events
-
-all-agree : (s : LinkState) (e : Event) (a b c d : Bool) → T (agree s e a b c d)
-all-agree s e a b c d =
-    for-bit (agree s e a b c)
-    (for-bit (agree₁ s e a b) (for-bit (agree₂ s e a) (for-bit (agree₃ s e) (for-event (agree₄ s) (for-state agree₅ tt s) e) a) b) c)
+pub in-each-case : (f : Cases) → T (inAllCases f) → (s : LinkState) (e : Event) (a b c d : Bool) → T (f s e a b c d)
+in-each-case f t s e a b c d =
+    for-bit (f s e a b c)
+    (for-bit (λ (x : Bool). each (f s e a b x) bits)
+    (for-bit (λ (x : Bool). each (λ (y : Bool). each (f s e a x y) bits) bits)
+    (for-bit (λ (x : Bool). each (λ (y : Bool). each (λ (z : Bool). each (f s e x y z) bits) bits) bits)
+    (for-event (λ (x : Event). onConditions (f s x))
+    (for-state (λ (x : LinkState). each (λ (y : Event). onConditions (f x y)) events) t s) e) a) b) c)
     d
+
+-- the same of a test that takes the conditions as one record
+abbrev conditionsOf : Bool → Bool → Bool → Bool → Conditions
+conditionsOf a b c d = record { atLimit = a; enabled = b; exchanged = c; disabled = d }
+
+abbrev pub inEveryCase : (LinkState → Event → Conditions → Bool) → Bool
+inEveryCase f = inAllCases (λ (s : LinkState) (e : Event) (a b c d : Bool). f s e (conditionsOf a b c d))
+
+pub every-case : (f : LinkState → Event → Conditions → Bool) → T (inEveryCase f) →
+    (s : LinkState) (e : Event) (c : Conditions) → T (f s e c)
+every-case f t s e c =
+    in-each-case (λ (s : LinkState) (e : Event) (a b c d : Bool). f s e (conditionsOf a b c d)) t s e
+    (c .atLimit) (c .enabled) (c .exchanged) (c .disabled)
+
+-- the two look-ups and the first move that fits, at one case
+abbrev agree : LinkState → Event → Conditions → Bool
+agree s e c = isState (lookedUp s e c) (stateAfter s e c)
 
 pub looked-up : (s : LinkState) (e : Event) (c : Conditions) → lookedUp s e c ≡ stateAfter s e c
 looked-up s e c =
     sym (state-of-number (lookedUp s e c))
-    ∙ ap stateOf
-    (eqb→eq (stateNumber (lookedUp s e c)) (stateNumber (stateAfter s e c))
-    (all-agree s e (c .atLimit) (c .enabled) (c .exchanged) (c .disabled)))
+    ∙ ap stateOf (eqb→eq (stateNumber (lookedUp s e c)) (stateNumber (stateAfter s e c)) (every-case agree tt s e c))
     ∙ state-of-number (stateAfter s e c)
 
 either-small : (b : Bool) {m n : ℕ} → m < 10 → n < 10 → pick b m n < 10

@@ -1,0 +1,16 @@
+pub mod CaseProofs
+pub mod TestLaws
+pub mod AccountLaws
+pub mod EndLaws
+pub mod TableFacts
+pub mod ChangeLaws
+pub mod RecoveryLaws
+pub mod MoveLaws
+pub mod EffectLaws
+pub mod TokenLaws
+pub mod SendLaws
+pub mod HostLaws
+pub mod CallLaws
+pub mod TimeLaws
+pub mod GoodEndProofs
+pub mod NothingLostProof

@@ -1,0 +1,4 @@
+pub mod Calls
+pub mod Cases
+pub mod GoodEnds
+pub mod NothingLost
