@@ -1,0 +1,16 @@
+pub mod ExampleProof
+pub mod TestLaws
+pub mod GrantProof
+pub mod WireLaws
+pub mod EndLaws
+pub mod FlowLaws
+pub mod NextLaws
+pub mod MoveLaws
+pub mod EffectLaws
+pub mod PairLaws
+pub mod QuietLaws
+pub mod SendLaws
+pub mod ReceiveLaws
+pub mod HostLaws
+pub mod StartLaws
+pub mod JoinedProof
