@@ -1,0 +1,2 @@
+pub mod EachLaws
+pub mod PlaceLaws

@@ -1,0 +1,4 @@
+pub mod Each
+pub mod Ports
+pub mod Places
+pub mod Refusals

@@ -1,0 +1,4 @@
+pub mod CountLaws
+pub mod GrantLaws
+pub mod RunLaws
+pub mod KeepLaws

@@ -1,0 +1,16 @@
+-- `rounds::counts::count_round` meets its contract.
+-- Assumes nothing.
+use borrow.Author.Needs.{needs}
+use mathlib.Core.Path.{refl}
+use Rattle.rounds.specs.Rounds.{rounds}
+use Rattle.rounds.specs.Acts.{countRound}
+use Rattle.rounds.proofs.counts.count_round.Statement.{statement}
+use Rattle.rounds.proofs.counts.count_round.Tie as tie
+
+pub count-round-spec : {M : Type 1} → statement M
+unfolding rounds countRound
+count-round-spec =
+    tie.close
+    (tie.spec
+    (λ c. search needs)
+    (λ c. λ area. refl))

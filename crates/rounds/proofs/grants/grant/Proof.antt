@@ -1,0 +1,17 @@
+-- `rounds::grants::grant` meets its contract.
+-- Assumes nothing.
+use borrow.Author.Needs.{needs}
+use mathlib.Core.Path.{_∙_}
+use Rattle.rounds.specs.Grants.{granted}
+use Rattle.rounds.proofs.grants.grant.Statement.{statement}
+use Rattle.rounds.proofs.grants.grant.Tie as tie
+
+pub grant-spec : {M : Type 1} → statement M
+unfolding granted
+grant-spec =
+    tie.close
+    (tie.spec
+    (λ c κs. search needs)
+    (λ c κs. search needs)
+    (λ c κs. search needs)
+    (λ c. λ area. c .changed-to .ensures area area ∙ rw (c .before .with-mode .ensures, c .before .before .with-output .ensures)))

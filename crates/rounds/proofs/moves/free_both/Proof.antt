@@ -1,0 +1,16 @@
+-- `rounds::moves::free_both` meets its contract.
+-- Assumes nothing.
+use borrow.Author.Needs.{needs}
+use Rattle.rounds.specs.Moves.{frees}
+use Rattle.rounds.proofs.moves.free_both.Statement.{statement}
+use Rattle.rounds.proofs.moves.free_both.Tie as tie
+
+pub free-both-spec : {M : Type 1} → statement M
+unfolding frees
+free-both-spec =
+    tie.close
+    (tie.spec
+    (λ c κs. search needs)
+    (λ c κs. search needs)
+    (λ c κs. search needs)
+    (λ c. λ area. rw (c .with-mode .ensures, c .before .with-output .ensures, c .before .before .output-at .ensures)))

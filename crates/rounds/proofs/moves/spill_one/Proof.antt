@@ -1,0 +1,21 @@
+-- `rounds::moves::spill_one` meets its contract.
+-- Assumes nothing.
+use borrow.Author.Needs.{needs}
+use mathlib.Core.Path.{_∙_}
+use Rattle.rounds.specs.Moves.{spillsOne}
+use Rattle.rounds.proofs.moves.spill_one.Statement.{statement}
+use Rattle.rounds.proofs.moves.spill_one.Tie as tie
+
+pub spill-one-spec : {M : Type 1} → statement M
+unfolding spillsOne
+spill-one-spec =
+    tie.close
+    (tie.spec
+    (λ c κs. search needs)
+    (λ c. rw (← c .before .empty-at .ensures, c .if1 .taken))
+    (λ c κs. search needs)
+    (λ c κs. search needs)
+    (λ c κs. search needs)
+    (λ c.
+    let area = c .before .before .before .before .before .before .before .args .area .now in
+    c .changed-to .ensures area area ∙ rw (c .before .spill .ensures, c .before .before .front-at .ensures, ← c .before .before .before .before .empty-at .ensures, c .before .before .before .if1 .left)))

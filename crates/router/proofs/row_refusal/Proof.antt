@@ -1,0 +1,16 @@
+-- `router::row_refusal` meets its contract.
+-- Assumes nothing.
+use borrow.Author.Needs.{needs}
+use mathlib.Core.Path.{sym, _∙_}
+use Rattle.router.proofs.row_refusal.Statement.{statement}
+use Rattle.router.proofs.row_refusal.Tie as tie
+
+pub row-refusal-spec : {M : Type 1} → statement M
+row-refusal-spec =
+    tie.close
+    (tie.spec
+    (λ c κs. search needs)
+    (λ c κs. search needs)
+    (λ c κs. search needs)
+    (λ c κs. search needs)
+    (λ c. c .refuse2 .ensures ∙ sym (rw (← c .before .before .before .outside-rows .ensures, ← c .before .before .refuse .ensures, ← c .before .bad-ports .ensures))))

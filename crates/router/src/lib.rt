@@ -1,0 +1,193 @@
+// The router (01, The router): put, take, run and the rows of its table. The state is a value, the area and the table are lent.
+ghost use mathlib.Core.Path.{_≡_};
+ghost use Prim.Native.Nat.{_<_};
+ghost use Rattle.store.specs.Ring.{empty};
+ghost use Rattle.ports.specs.Ports.{freshRouter, storeAt, outputStore};
+ghost use Rattle.ports.specs.Places.{machine};
+ghost use Rattle.router.specs.Refusals.{lentRefusal, putRefusal, takeRefusal, runRefusal, rowRefusal};
+ghost use Rattle.router.specs.Calls.{putOf, puts, tookOf, tookOne, takes, ranOf, runs, writesRow, readsRow};
+use ports::Router;
+
+pub struct Answer {
+    pub refusal: u8,
+    pub router: Router,
+}
+
+pub struct Taken {
+    pub refusal: u8,
+    pub router: Router,
+    pub taken: u16,
+}
+
+// What a run did: rounds with the last, N-Chars moved from an input to an output, address errors met.
+pub struct Ran {
+    pub refusal: u8,
+    pub router: Router,
+    pub rounds: u32,
+    pub moved: u32,
+    pub errors: u32,
+}
+
+pub struct RowRead {
+    pub refusal: u8,
+    pub value: u32,
+}
+
+// Idle inputs, free outputs, empty stores.
+pub fn fresh() -> Router
+    ensures { λ r. ⌜ r ≡ freshRouter ⌝ }
+{
+    ports::fresh()
+}
+
+// The three tests of what put, take and run are lent, then the later ones.
+fn lent_refusal(s: Router, area: &[u16], later: u8) -> u8
+    ensures { λ r. ⌜ r ≡ lentRefusal (machine s (now (area .entry))) later ⌝ }
+{
+    let sized = vocabulary::refuse(ports::bad_stores(s, area), vocabulary::STATE, later);
+    let stored = vocabulary::refuse(ports::bad_area(area), vocabulary::STORE, sized);
+    vocabulary::refuse(ports::bad_ports(s), vocabulary::STATE, stored)
+}
+
+fn put_refusal(s: Router, area: &[u16], port: usize, n: u16) -> u8
+    ensures { λ r. ⌜ r ≡ putRefusal (machine s (now (area .entry))) port n ⌝ }
+{
+    let full = vocabulary::refuse(ports::full_at(s, area, port), vocabulary::FULL, 0);
+    let char = vocabulary::refuse(vocabulary::above_eep(n), vocabulary::CHAR, full);
+    let number = vocabulary::refuse(10 < port, vocabulary::PORT, char);
+    lent_refusal(s, area, number)
+}
+
+// One N-Char to a port's input store: `put(s, &mut area, 1, 65)`.
+pub fn put(s: Router, area: &mut [u16], port: usize, n: u16) -> Answer
+    ensures { λ r. ⌜ putOf r (now (area .exit)) ≡ puts (machine s (now (area .entry))) port n ⌝ }
+{
+    let number = put_refusal(s, area, port, n);
+    if number == 0 {
+        let router = ports::with_behind(s, area, port, n);
+        Answer { refusal: 0, router }
+    } else {
+        Answer {
+            refusal: number,
+            router: s,
+        }
+    }
+}
+
+fn nothing_out(s: Router, port: usize) -> bool
+    ensures { λ r. ⌜ r ≡ empty (storeAt s (outputStore port)) ⌝ }
+{
+    if 10 < port {
+        true
+    } else {
+        ports::empty_at(s, 11 + port)
+    }
+}
+
+fn take_refusal(s: Router, area: &[u16], port: usize) -> u8
+    ensures { λ r. ⌜ r ≡ takeRefusal (machine s (now (area .entry))) port ⌝ }
+{
+    let none = vocabulary::refuse(nothing_out(s, port), vocabulary::EMPTY, 0);
+    let number = vocabulary::refuse(10 < port, vocabulary::PORT, none);
+    lent_refusal(s, area, number)
+}
+
+fn take_one(s: Router, area: &[u16], port: usize) -> Taken
+    requires { ⌜ port < 11 ⌝ }
+    ensures { λ r. ⌜ tookOf r (now (area .entry)) ≡ tookOne (machine s (now (area .entry))) port ⌝ }
+{
+    let taken = ports::front_at(s, area, 11 + port);
+    let router = ports::without_front(s, area, 11 + port);
+    Taken {
+        refusal: 0,
+        router,
+        taken,
+    }
+}
+
+// The front N-Char of a port's output store: `take(s, &area, 3)`.
+pub fn take(s: Router, area: &[u16], port: usize) -> Taken
+    ensures { λ r. ⌜ tookOf r (now (area .entry)) ≡ takes (machine s (now (area .entry))) port ⌝ }
+{
+    let number = take_refusal(s, area, port);
+    if number == 0 {
+        take_one(s, area, port)
+    } else {
+        Taken {
+            refusal: number,
+            router: s,
+            taken: 0,
+        }
+    }
+}
+
+fn run_refusal(s: Router, area: &[u16], limit: u16) -> u8
+    ensures { λ r. ⌜ r ≡ runRefusal (machine s (now (area .entry))) limit ⌝ }
+{
+    let number = vocabulary::refuse(10000 < limit, vocabulary::ROUNDS, 0);
+    lent_refusal(s, area, number)
+}
+
+// Up to `limit` rounds, through the first that changes nothing: `run(s, &mut area, &table, 10)`.
+pub fn run(s: Router, area: &mut [u16], table: &[u32; 256], limit: u16) -> Ran
+    ensures { λ r. ⌜ ranOf r (now (area .exit)) ≡ runs (machine s (now (area .entry))) (now (table .entry)) limit ⌝ }
+{
+    let number = run_refusal(s, area, limit);
+    if number == 0 {
+        let p = rounds::run(s, area, table, limit);
+        let router = p.router;
+        let rounds = p.rounds;
+        let moved = p.moved;
+        let errors = p.errors;
+        Ran {
+            refusal: 0,
+            router,
+            rounds,
+            moved,
+            errors,
+        }
+    } else {
+        Ran {
+            refusal: number,
+            router: s,
+            rounds: 0,
+            moved: 0,
+            errors: 0,
+        }
+    }
+}
+
+fn row_refusal(s: Router, row: usize) -> u8
+    ensures { λ r. ⌜ r ≡ rowRefusal s row ⌝ }
+{
+    let number = vocabulary::refuse(table::outside_rows(row), vocabulary::ROW, 0);
+    vocabulary::refuse(ports::bad_ports(s), vocabulary::STATE, number)
+}
+
+// A row written: `write_row(s, &mut table, 39, 4)` has address 39 request port 2.
+pub fn write_row(s: Router, table: &mut [u32; 256], row: usize, value: u32) -> u8
+    ensures { λ r. ⌜ (r ≡ rowRefusal s row) × (now (table .exit) ≡ writesRow s (now (table .entry)) row value) ⌝ }
+{
+    let number = row_refusal(s, row);
+    if number == 0 {
+        table::write(table, row, value);
+        0
+    } else {
+        number
+    }
+}
+
+pub fn read_row(s: Router, table: &[u32; 256], row: usize) -> RowRead
+    ensures { λ r. ⌜ r ≡ readsRow s (now (table .entry)) row ⌝ }
+{
+    let number = row_refusal(s, row);
+    if number == 0 {
+        let value = table::read(table, row);
+        RowRead { refusal: 0, value }
+    } else {
+        RowRead {
+            refusal: number,
+            value: 0,
+        }
+    }
+}
