@@ -1,0 +1,6 @@
+pub mod WritingLaws
+pub mod LineLaws
+pub mod InputLaws
+pub mod RoomLaws
+pub mod ListingLaws
+pub mod DecimalLaws
