@@ -20,6 +20,8 @@ use Rattle.link.specs.declared.Answer.{Answer}
 use Rattle.link.specs.declared.Dispatch.{Dispatch}
 use Rattle.link.specs.declared.Receipt.{Receipt}
 use Rattle.link.specs.declared.Taken.{Taken}
+use Rattle.router.specs.Calls.{Put, puts, Took, tookOne, takes, Run, told as routerTold, runs, readsRow}
+use Rattle.router.specs.declared.RowRead.{RowRead}
 use Rattle.promises.specs.Exactly.{Exactly, RefusedExactly}
 
 -- what is read off an answer that is accepted where the number is 0, and refused with the number elsewhere, is the number
@@ -35,6 +37,7 @@ unfolding
     encodeAnswer sent encodeRefused bitAnswer tickAnswer decodeAccepted decodeRefused refusedWith answered accepted refused
     tickOutcome faultOutcome controlOutcome resetOutcome dispatchOf dispatched sendRefused sendOutcome receiptOf received
     receiveRefused tokenAccepted receiveOutcome putAnswer takeAccepted takeRefused takeAnswer offerAccepted offerAnswer
+    puts tookOne takes routerTold runs readsRow
 refused-exactly =
     record {
       encode = λ e t. record { first = told (λ (a : Encoded). a .refusal) _ _ _ refl refl; ordered = refl };
@@ -50,4 +53,8 @@ refused-exactly =
       put = λ size l n. record { first = told (λ (a : Answer). a .refusal) _ _ _ refl refl; ordered = refl };
       take = λ rx l. record { first = told (λ (a : Taken). a .refusal) _ _ _ refl refl; ordered = refl };
       offer = λ l v. record { first = told (λ (a : Answer). a .refusal) _ _ _ refl refl; ordered = refl };
+      router-put = λ x port n. record { first = told (λ (o : Put). o .refusal) _ _ _ refl refl; ordered = refl };
+      router-take = λ x port. record { first = told (λ (o : Took). o .refusal) _ _ _ refl refl; ordered = refl };
+      router-run = λ x table limit. record { first = told (λ (o : Run). o .refusal) _ _ _ refl refl; ordered = refl };
+      router-read = λ s table row. record { first = told (λ (o : RowRead). o .refusal) _ _ _ refl refl; ordered = refl };
     }

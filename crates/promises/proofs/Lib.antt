@@ -3,4 +3,6 @@ pub mod CharactersAnswers
 pub mod StoresAnswers
 pub mod TimeCounterAnswers
 pub mod LinkEndAnswers
+pub mod RouterAnswers
 pub mod ExactlyProofs
+pub mod StarredProofs

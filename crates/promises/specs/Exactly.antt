@@ -19,6 +19,11 @@ use Rattle.link.specs.Calls.{tickOutcome, faultOutcome, controlOutcome, resetOu
 use Rattle.link.specs.declared.Controls.{Controls}
 use Rattle.link.specs.declared.FaultKind.{FaultKind}
 use Rattle.link.specs.declared.Link.{Link}
+use Rattle.ports.specs.Places.{Machine}
+use Rattle.ports.specs.declared.Router.{Router as RouterState}
+use Rattle.router.specs.Refusals.{putTests as routerPutTests, takeTests as routerTakeTests}
+use Rattle.router.specs.Refusals.{runTests as routerRunTests, rowTests as routerRowTests}
+use Rattle.router.specs.Calls.{puts, takes, runs, readsRow}
 
 -- a call that answers this refusal, by these tests
 pub record Exactly (answered : ℕ) (tests : List Test) : Type 0 where
@@ -43,3 +48,8 @@ pub record RefusedExactly : Type 0 where
   pub put : (size : ℕ) (l : Link) (n : ℕ) → Exactly ((putAnswer size l n) .refusal) (putTests size l n)
   pub take : (rx : List ℕ) (l : Link) → Exactly ((takeAnswer rx l) .refusal) (takeTests (length rx) l)
   pub offer : (l : Link) (v : ℕ) → Exactly ((offerAnswer l v) .refusal) (offerTests l)
+  pub router-put : (x : Machine) (port n : ℕ) → Exactly ((puts x port n) .refusal) (routerPutTests x port n)
+  pub router-take : (x : Machine) (port : ℕ) → Exactly ((takes x port) .refusal) (routerTakeTests x port)
+  pub router-run : (x : Machine) (table : List ℕ) (limit : ℕ) → Exactly ((runs x table limit) .refusal) (routerRunTests x limit)
+  pub router-read : (s : RouterState) (table : List ℕ) (row : ℕ) →
+      Exactly ((readsRow s table row) .refusal) (routerRowTests s row)

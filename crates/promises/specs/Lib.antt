@@ -1,2 +1,3 @@
 pub mod OneAnswer
 pub mod Exactly
+pub mod Starred

@@ -1,0 +1,60 @@
+-- `router`: each promise is an equation with a definition, so two answers that it allows are one.
+-- Assumes nothing.
+use mathlib.Core.Path.{_≡_, sym, ap, _∙_}
+use denote.Ref.{now}
+use Rattle.promises.specs.OneAnswer.{OneResult, OnePlaces}
+use Rattle.router.specs.Calls.{Put, Took, Run}
+use Rattle.router.specs.declared.Answer.{Answer}
+use Rattle.router.specs.declared.Taken.{Taken}
+use Rattle.router.specs.declared.Ran.{Ran}
+use Rattle.router.proofs.fresh.Kinds as fresh-kinds
+use Rattle.router.proofs.fresh.Reads as fresh-reads
+use Rattle.router.proofs.put.Kinds as put-kinds
+use Rattle.router.proofs.put.Reads as put-reads
+use Rattle.router.proofs.take.Kinds as take-kinds
+use Rattle.router.proofs.take.Reads as take-reads
+use Rattle.router.proofs.run.Kinds as run-kinds
+use Rattle.router.proofs.run.Reads as run-reads
+use Rattle.router.proofs.write_row.Kinds as write-row-kinds
+use Rattle.router.proofs.write_row.Reads as write-row-reads
+use Rattle.router.proofs.read_row.Kinds as read-row-kinds
+use Rattle.router.proofs.read_row.Reads as read-row-reads
+
+pub fresh : OneResult 0 fresh-kinds.ps fresh-kinds.r fresh-reads.Post
+fresh κs a x y s t p q = p ∙ sym q
+
+pub put : OneResult 1 put-kinds.ps put-kinds.r put-reads.Post
+put κs a x y s t p q =
+    ap {B = Answer} (λ (o : Put). record { refusal = o .refusal; router = o .now .router }) (p ∙ sym q)
+
+pub put-area : OnePlaces 1 put-kinds.ps put-kinds.r put-reads.Post (λ κs s. now (s .1 .0))
+put-area κs a x y s t p q = ap (λ (o : Put). o .now .area) (p ∙ sym q)
+
+pub take : OneResult 1 take-kinds.ps take-kinds.r take-reads.Post
+take κs a x y s t p q =
+    ap {B = Taken} (λ (o : Took). record { refusal = o .refusal; router = o .now .router; taken = o .taken }) (p ∙ sym q)
+
+pub run : OneResult 2 run-kinds.ps run-kinds.r run-reads.Post
+run κs a x y s t p q =
+    ap {B = Ran}
+    (λ (o : Run).
+    record {
+      refusal = o .refusal;
+      router = o .now .router;
+      rounds = o .rounds;
+      moved = o .moved;
+      errors = o .errors;
+    })
+    (p ∙ sym q)
+
+pub run-area : OnePlaces 2 run-kinds.ps run-kinds.r run-reads.Post (λ κs s. now (s .1 .0))
+run-area κs a x y s t p q = ap (λ (o : Run). o .now .area) (p ∙ sym q)
+
+pub write-row : OneResult 1 write-row-kinds.ps write-row-kinds.r write-row-reads.Post
+write-row κs a x y s t p q = p .0 ∙ sym (q .0)
+
+pub write-row-table : OnePlaces 1 write-row-kinds.ps write-row-kinds.r write-row-reads.Post (λ κs s. now (s .1 .0))
+write-row-table κs a x y s t p q = p .1 ∙ sym (q .1)
+
+pub read-row : OneResult 1 read-row-kinds.ps read-row-kinds.r read-row-reads.Post
+read-row κs a x y s t p q = p ∙ sym q
