@@ -1,2 +1,4 @@
 pub mod EachLaws
 pub mod PlaceLaws
+pub mod PortLaws
+pub mod StateLaws

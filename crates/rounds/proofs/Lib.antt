@@ -2,3 +2,4 @@ pub mod CountLaws
 pub mod GrantLaws
 pub mod RunLaws
 pub mod KeepLaws
+pub mod SoundLaws

@@ -1,2 +1,3 @@
 pub mod RefusalLaws
 pub mod CaseProofs
+pub mod ReachedProof
