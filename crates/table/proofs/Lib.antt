@@ -1,2 +1,3 @@
 pub mod MaskLaws
 pub mod HeadingLaws
+pub mod RowLaws

@@ -1,6 +1,7 @@
 -- 01, The router: the 256 rows of the routing table. A row is 32 bits; a set of ports is a number whose bit p is port p.
 -- Assumes nothing.
-use Prim.Native.Nat.{ℕ, _+_, _*_, _/_, _%_, _^_}
+use mathlib.Core.Path.{_≡_}
+use Prim.Native.Nat.{ℕ, _+_, _*_, _/_, _%_, _^_, _<_}
 use mathlib.Core.Bool.{Bool, _||_}
 use mathlib.Core.List.{List}
 use lib.ListN.{getD, set, replicate}
@@ -49,3 +50,7 @@ withRow table row value = pick (ltb row 256) (set table row (writtenRow value)) 
 -- 4 ROW: "outside 32 to 255"
 abbrev pub outsideRows : ℕ → Bool
 outsideRows row = ltb row 32 || ltb 255 row
+
+-- what "All 256 rows" comes to: every row of the fresh table is invalid
+abbrev pub EveryRowInvalid : Type 0
+EveryRowInvalid = (row : ℕ) → row < 256 → rowAt freshTable row ≡ INVALID
