@@ -1,1 +1,2 @@
-// Two link ends joined by two wires, and what holds between them. Definitions and theorems only: there is nothing to call.
+// Two link ends joined by two wires, and what holds between them. Definitions and theorems only: there is
+// nothing to call.

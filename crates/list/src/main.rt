@@ -1,4 +1,5 @@
-// Lists the capture on standard input (01, The listing). One byte more than a listing takes is read: it tells a long input.
+// Lists the capture on standard input (01, The listing). One byte more than a listing takes is read: it tells a
+// long input.
 fn main() {
     let mut input = [0u8; 65537];
     let count = io::read_full(0, &mut input);

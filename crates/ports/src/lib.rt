@@ -2,7 +2,8 @@
 ghost use mathlib.Core.Path.{_≡_};
 ghost use Rattle.ports.specs.Ports.{freshRouter, modeAt, outputAt, storeAt, withMode, withOutput, withStore};
 ghost use Rattle.ports.specs.Places.{machine, badArea, fullAt, frontAt, withoutFront, withBehind};
-ghost use Rattle.ports.specs.Refusals.{isOwner, isRouted, badWanted, badMode, badOutput, badOwner, badPort, badPorts, badStores};
+ghost use Rattle.ports.specs.Refusals.{isOwner, isRouted, badWanted, badMode};
+ghost use Rattle.ports.specs.Refusals.{badOutput, badOwner, badPort, badPorts, badStores};
 ghost use Rattle.store.specs.Ring.{empty};
 use store::Store;
 

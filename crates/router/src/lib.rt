@@ -1,4 +1,5 @@
-// The router (01, The router): put, take, run and the rows of its table. The state is a value, the area and the table are lent.
+// The router (01, The router): put, take, run and the rows of its table. The state is a value, the area and the
+// table are lent.
 ghost use mathlib.Core.Path.{_≡_};
 ghost use Prim.Native.Nat.{_<_};
 ghost use Rattle.store.specs.Ring.{empty};

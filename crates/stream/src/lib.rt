@@ -1,1 +1,2 @@
-// What a stream of bits means, and that the decoder says just that. Definitions and theorems only: there is nothing to call.
+// What a stream of bits means, and that the decoder says just that. Definitions and theorems only: there is
+// nothing to call.
