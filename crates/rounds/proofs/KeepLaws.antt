@@ -81,10 +81,10 @@ first-fits fit (c ∷ cs) i h = go (fit c) refl (first-fits fit cs i) h
     go false e rest g = rest g
 
 module _ {X : Type 0} (M : Acts X) (P : X → Type 0) (keep : Keeps M P) (table : List ℕ) where
-  abbrev Q : Tally X → Type 0
+  abbrev pub Q : Tally X → Type 0
   Q t = P (t .now)
 
-  keeps-addresses : (t : Tally X) (i : ℕ) → i < 11 → Q t → Q (addresses M table t i)
+  pub keeps-addresses : (t : Tally X) (i : ℕ) → i < 11 → Q t → Q (addresses M table t i)
   unfolding addresses reads waits countError
   keeps-addresses t i h p = go (M .mode (t .now) i) refl
     where
@@ -103,7 +103,7 @@ module _ {X : Type 0} (M : Acts X) (P : X → Type 0) (keep : Keeps M P) (table 
       go (Routed o) e = p
       go Spilling e = p
 
-  keeps-grants : (t : Tally X) (o : ℕ) → o < 11 → Q t → Q (grants M t o)
+  pub keeps-grants : (t : Tally X) (o : ℕ) → o < 11 → Q t → Q (grants M t o)
   unfolding grants granted
   keeps-grants t o h p = go (isFree (M .output (t .now) o .owner)) refl
     where
@@ -119,7 +119,7 @@ module _ {X : Type 0} (M : Acts X) (P : X → Type 0) (keep : Keeps M P) (table 
       go true e = take e (chosen M (t .now) o) refl
       go false e = p
 
-  keeps-sends : (t : Tally X) (i : ℕ) → i < 11 → Q t → Q (sends M t i)
+  pub keeps-sends : (t : Tally X) (i : ℕ) → i < 11 → Q t → Q (sends M t i)
   unfolding sends movesOne moves carries frees spillsOne spills countMoved
   keeps-sends t i h p = go (M .mode (t .now) i) refl
     where
@@ -147,7 +147,7 @@ module _ {X : Type 0} (M : Acts X) (P : X → Type 0) (keep : Keeps M P) (table 
           either P (M .isEmpty (t .now) (inputStore i)) t _ p
           (changes P t _ (spill (M .front (t .now) (inputStore i)) e))
 
-  begins-kept : (t : Tally X) → Q t → Q (countRound t)
+  pub begins-kept : (t : Tally X) → Q t → Q (countRound t)
   unfolding countRound
   begins-kept t p = p
 

@@ -3,3 +3,6 @@ pub mod GrantLaws
 pub mod RunLaws
 pub mod KeepLaws
 pub mod SoundLaws
+pub mod StillProof
+pub mod FallLaws
+pub mod MarkedProof

@@ -40,14 +40,14 @@ waiting-unrouted : (o : ℕ) (high : Bool) (m : Mode) → waitsFor o high m ≡ 
 waiting-unrouted o high m w p r = false≢true (ap (waitsFor o high) (sym r) ∙ w)
 
 -- past the last port nobody waits
-waits-below : (x : Machine) (o i : ℕ) (high : Bool) → waitsFor o high (modeAt (x .router) i) ≡ true → i < 11
+pub waits-below : (x : Machine) (o i : ℕ) (high : Bool) → waitsFor o high (modeAt (x .router) i) ≡ true → i < 11
 waits-below x o i high w = go (decLt i 11)
   where
     go : Dec (i < 11) → i < 11
     go (yes h) = h
     go (no d) = absurd (false≢true (rw (le-ltb i 11 (omega (arith, d))) at w))
 
-free-owner : (w : Owner) → isFree w ≡ true → w ≡ Free
+pub free-owner : (w : Owner) → isFree w ≡ true → w ≡ Free
 free-owner Free e = refl
 free-owner (By i) e = absurd (false≢true e)
 

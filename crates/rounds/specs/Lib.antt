@@ -5,3 +5,4 @@ pub mod Moves
 pub mod Rounds
 pub mod Model
 pub mod Exact
+pub mod Still

@@ -1,4 +1,5 @@
--- Calls leave states and areas that are never refused as STATE: a fresh one is sound, and every call keeps that.
+-- Calls leave states and areas that are never refused as STATE: a fresh one is sound, and every call keeps that. On such
+-- states the mark of a round says exactly whether it changed anything.
 -- Assumes nothing.
 use mathlib.Core.Path.{_≡_, refl, sym, ap, _∙_}
 use mathlib.Core.Bool.{Bool, true, false, not, _||_}
@@ -17,9 +18,13 @@ use Rattle.ports.specs.Places.{Machine, machine, sizeIn, badArea}
 use Rattle.ports.specs.declared.Mode.the-variants.{Idle}
 use Rattle.ports.proofs.StateLaws.{Shape, Sound, drop-sound, append-sound, sound-ports, sound-stores}
 use Rattle.rounds.proofs.SoundLaws.{run-sound}
+use Rattle.rounds.proofs.StillProof.{unmarked-is-still}
+use Rattle.rounds.proofs.MarkedProof.{marked-is-change}
+use Rattle.rounds.specs.Acts.{Tally, countRound}
+use Rattle.rounds.specs.Exact.{exact}
 use Rattle.router.specs.Refusals.{putRefusal, takeRefusal, runRefusal}
 use Rattle.router.specs.Calls.{Put, Took, Run, puts, tookOne, takes, told, runs}
-use Rattle.router.specs.Reached.{Reached, fresh, put, take, run, NeverSpoiled}
+use Rattle.router.specs.Reached.{Reached, fresh, put, take, run, NeverSpoiled, MarkIsExact}
 
 -- fresh
 
@@ -106,4 +111,16 @@ never-spoiled x r =
       ports = sound-ports (k .size) x (k .sound);
       stores = sound-stores (k .size) x (k .sound);
       area = k .area;
+    }
+
+same-start : (t : Tally Machine) → countRound t .now ≡ t .now
+unfolding countRound
+same-start t = refl
+
+pub mark-is-exact : MarkIsExact
+mark-is-exact table t r =
+    let k = reached-keeps r in
+    record {
+      off = λ e. ap (λ (u : Tally Machine). u .now) (unmarked-is-still exact table t e) ∙ same-start t;
+      on = marked-is-change (k .size) table t (k .sound);
     }

@@ -2,12 +2,15 @@
 -- refuses it for what it was handed: "a call tests what it is lent".
 -- Assumes nothing.
 use mathlib.Core.Path.{_≡_}
-use mathlib.Core.Bool.{false}
+use mathlib.Core.Bool.{true, false}
 use mathlib.Core.List.{List}
 use Prim.Native.Nat.{ℕ}
 use Rattle.ports.specs.Ports.{freshRouter}
 use Rattle.ports.specs.Places.{Machine, machine, badArea}
 use Rattle.ports.specs.Refusals.{badPorts, badStores}
+use Rattle.rounds.specs.Acts.{Tally}
+use Rattle.rounds.specs.Rounds.{round}
+use Rattle.rounds.specs.Exact.{exact}
 use Rattle.router.specs.Calls.{puts, takes, runs}
 
 pub data Reached : Machine → Type 0 where
@@ -24,3 +27,12 @@ pub record Unspoiled (x : Machine) : Type 0 where
 
 abbrev pub NeverSpoiled : Type 0
 NeverSpoiled = (x : Machine) → Reached x → Unspoiled x
+
+-- The mark by which a run stops says exactly whether the round changed the whole state and area: off, and they are the same;
+-- on, and they are not. Every round of every run starts from what calls can leave.
+pub record MarkSays (table : List ℕ) (t : Tally Machine) : Type 0 where
+  pub off : round exact table t .changed ≡ false → round exact table t .now ≡ t .now
+  pub on : round exact table t .changed ≡ true → round exact table t .now ≡ t .now → ⊥
+
+abbrev pub MarkIsExact : Type 0
+MarkIsExact = (table : List ℕ) (t : Tally Machine) → Reached (t .now) → MarkSays table t
