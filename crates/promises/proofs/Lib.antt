@@ -4,5 +4,9 @@ pub mod StoresAnswers
 pub mod TimeCounterAnswers
 pub mod LinkEndAnswers
 pub mod RouterAnswers
+pub mod ListingAnswers
+pub mod RoundsAnswers
+pub mod PortsAnswers
+pub mod TableAnswers
 pub mod ExactlyProofs
 pub mod StarredProofs

@@ -1,0 +1,84 @@
+-- `ports`: each promise is an equation with a definition, so two answers that it allows are one.
+-- Assumes nothing.
+use mathlib.Core.Path.{_≡_, sym, ap, _∙_}
+use denote.Ref.{now}
+use Rattle.promises.specs.OneAnswer.{OneResult, OnePlaces}
+use Rattle.ports.specs.Places.{Machine}
+use Rattle.ports.proofs.fresh.Kinds as fresh-kinds
+use Rattle.ports.proofs.fresh.Reads as fresh-reads
+use Rattle.ports.proofs.mode_at.Kinds as mode-at-kinds
+use Rattle.ports.proofs.mode_at.Reads as mode-at-reads
+use Rattle.ports.proofs.output_at.Kinds as output-at-kinds
+use Rattle.ports.proofs.output_at.Reads as output-at-reads
+use Rattle.ports.proofs.store_at.Kinds as store-at-kinds
+use Rattle.ports.proofs.store_at.Reads as store-at-reads
+use Rattle.ports.proofs.with_mode.Kinds as with-mode-kinds
+use Rattle.ports.proofs.with_mode.Reads as with-mode-reads
+use Rattle.ports.proofs.with_output.Kinds as with-output-kinds
+use Rattle.ports.proofs.with_output.Reads as with-output-reads
+use Rattle.ports.proofs.with_store.Kinds as with-store-kinds
+use Rattle.ports.proofs.with_store.Reads as with-store-reads
+use Rattle.ports.proofs.empty_at.Kinds as empty-at-kinds
+use Rattle.ports.proofs.empty_at.Reads as empty-at-reads
+use Rattle.ports.proofs.full_at.Kinds as full-at-kinds
+use Rattle.ports.proofs.full_at.Reads as full-at-reads
+use Rattle.ports.proofs.front_at.Kinds as front-at-kinds
+use Rattle.ports.proofs.front_at.Reads as front-at-reads
+use Rattle.ports.proofs.without_front.Kinds as without-front-kinds
+use Rattle.ports.proofs.without_front.Reads as without-front-reads
+use Rattle.ports.proofs.with_behind.Kinds as with-behind-kinds
+use Rattle.ports.proofs.with_behind.Reads as with-behind-reads
+use Rattle.ports.proofs.bad_area.Kinds as bad-area-kinds
+use Rattle.ports.proofs.bad_area.Reads as bad-area-reads
+use Rattle.ports.proofs.bad_ports.Kinds as bad-ports-kinds
+use Rattle.ports.proofs.bad_ports.Reads as bad-ports-reads
+use Rattle.ports.proofs.bad_stores.Kinds as bad-stores-kinds
+use Rattle.ports.proofs.bad_stores.Reads as bad-stores-reads
+
+pub fresh : OneResult 0 fresh-kinds.ps fresh-kinds.r fresh-reads.Post
+fresh κs a x y s t p q = p ∙ sym q
+
+pub mode-at : OneResult 0 mode-at-kinds.ps mode-at-kinds.r mode-at-reads.Post
+mode-at κs a x y s t p q = p ∙ sym q
+
+pub output-at : OneResult 0 output-at-kinds.ps output-at-kinds.r output-at-reads.Post
+output-at κs a x y s t p q = p ∙ sym q
+
+pub store-at : OneResult 0 store-at-kinds.ps store-at-kinds.r store-at-reads.Post
+store-at κs a x y s t p q = p ∙ sym q
+
+pub with-mode : OneResult 0 with-mode-kinds.ps with-mode-kinds.r with-mode-reads.Post
+with-mode κs a x y s t p q = p ∙ sym q
+
+pub with-output : OneResult 0 with-output-kinds.ps with-output-kinds.r with-output-reads.Post
+with-output κs a x y s t p q = p ∙ sym q
+
+pub with-store : OneResult 0 with-store-kinds.ps with-store-kinds.r with-store-reads.Post
+with-store κs a x y s t p q = p ∙ sym q
+
+pub empty-at : OneResult 0 empty-at-kinds.ps empty-at-kinds.r empty-at-reads.Post
+empty-at κs a x y s t p q = p ∙ sym q
+
+pub full-at : OneResult 1 full-at-kinds.ps full-at-kinds.r full-at-reads.Post
+full-at κs a x y s t p q = p ∙ sym q
+
+pub front-at : OneResult 1 front-at-kinds.ps front-at-kinds.r front-at-reads.Post
+front-at κs a x y s t p q = p ∙ sym q
+
+pub without-front : OneResult 1 without-front-kinds.ps without-front-kinds.r without-front-reads.Post
+without-front κs a x y s t p q = ap (λ (m : Machine). m .router) (p ∙ sym q)
+
+pub with-behind : OneResult 1 with-behind-kinds.ps with-behind-kinds.r with-behind-reads.Post
+with-behind κs a x y s t p q = ap (λ (m : Machine). m .router) (p ∙ sym q)
+
+pub with-behind-area : OnePlaces 1 with-behind-kinds.ps with-behind-kinds.r with-behind-reads.Post (λ κs s. now (s .1 .0))
+with-behind-area κs a x y s t p q = ap (λ (m : Machine). m .area) (p ∙ sym q)
+
+pub bad-area : OneResult 1 bad-area-kinds.ps bad-area-kinds.r bad-area-reads.Post
+bad-area κs a x y s t p q = p ∙ sym q
+
+pub bad-ports : OneResult 0 bad-ports-kinds.ps bad-ports-kinds.r bad-ports-reads.Post
+bad-ports κs a x y s t p q = p ∙ sym q
+
+pub bad-stores : OneResult 1 bad-stores-kinds.ps bad-stores-kinds.r bad-stores-reads.Post
+bad-stores κs a x y s t p q = p ∙ sym q

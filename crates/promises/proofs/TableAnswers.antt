@@ -1,0 +1,30 @@
+-- `table`: each promise is an equation with a definition, so two answers that it allows are one.
+-- Assumes nothing.
+use mathlib.Core.Path.{_≡_, sym, _∙_}
+use denote.Ref.{now}
+use Rattle.promises.specs.OneAnswer.{OneResult, OnePlaces}
+use Rattle.table.proofs.fresh.Kinds as fresh-kinds
+use Rattle.table.proofs.fresh.Reads as fresh-reads
+use Rattle.table.proofs.outside_rows.Kinds as outside-rows-kinds
+use Rattle.table.proofs.outside_rows.Reads as outside-rows-reads
+use Rattle.table.proofs.write.Kinds as write-kinds
+use Rattle.table.proofs.write.Reads as write-reads
+use Rattle.table.proofs.read.Kinds as read-kinds
+use Rattle.table.proofs.read.Reads as read-reads
+use Rattle.table.proofs.heading_of.Kinds as heading-of-kinds
+use Rattle.table.proofs.heading_of.Reads as heading-of-reads
+
+pub fresh : OneResult 0 fresh-kinds.ps fresh-kinds.r fresh-reads.Post
+fresh κs a x y s t p q = p ∙ sym q
+
+pub outside-rows : OneResult 0 outside-rows-kinds.ps outside-rows-kinds.r outside-rows-reads.Post
+outside-rows κs a x y s t p q = p ∙ sym q
+
+pub write-table : OnePlaces 1 write-kinds.ps write-kinds.r write-reads.Post (λ κs s. now (s .0))
+write-table κs a x y s t p q = p ∙ sym q
+
+pub read : OneResult 1 read-kinds.ps read-kinds.r read-reads.Post
+read κs a x y s t p q = p ∙ sym q
+
+pub heading-of : OneResult 1 heading-of-kinds.ps heading-of-kinds.r heading-of-reads.Post
+heading-of κs a x y s t p q = p ∙ sym q
