@@ -44,7 +44,7 @@ fresh-shape : Shape freshRouter
 unfolding freshRouter
 fresh-shape = record { inputs = refl; outputs = refl; stores = refl }
 
-fresh-sound : (area : List ℕ) → badArea area ≡ false → Sound (length area) (machine freshRouter area)
+pub fresh-sound : (area : List ℕ) → badArea area ≡ false → Sound (length area) (machine freshRouter area)
 fresh-sound area e =
     let equal = not (eqb (length area % 22) 0) in
     let sizes = or-left (equal || ltb (sizeIn area) 9) (ltb 1024 (sizeIn area)) e in
@@ -62,12 +62,12 @@ fresh-sound area e =
     }
 
 -- what is kept: the state is sound, and the area as long as one that is allowed
-record Kept (x : Machine) : Type 0 where
-  size : ℕ
-  sound : Sound size x
-  area : badArea (x .area) ≡ false
+pub record Kept (x : Machine) : Type 0 where
+  pub size : ℕ
+  pub sound : Sound size x
+  pub area : badArea (x .area) ≡ false
 
-same-size : (x y : Machine) → length (x .area) ≡ length (y .area) → badArea (y .area) ≡ false → badArea (x .area) ≡ false
+pub same-size : (x y : Machine) → length (x .area) ≡ length (y .area) → badArea (y .area) ≡ false → badArea (x .area) ≡ false
 same-size x y e bad =
     ap (λ (m : ℕ). not (eqb (m % 22) 0) || ltb (m / 22) 9 || ltb 1024 (m / 22)) e ∙ bad
 
@@ -98,7 +98,7 @@ run-keeps x table limit k =
     either (λ (a : Run). a .now) (eqb (runRefusal x limit) 0) _ _
     (keeps x _ (λ m s. run-sound m table limit x s) k) k
 
-reached-keeps : {x : Machine} → Reached x → Kept x
+pub reached-keeps : {x : Machine} → Reached x → Kept x
 reached-keeps (fresh area e) = record { size = length area; sound = fresh-sound area e; area = e }
 reached-keeps (put {x} port n r) = put-keeps x port n (reached-keeps r)
 reached-keeps (take {x} port r) = take-keeps x port (reached-keeps r)

@@ -1,0 +1,7 @@
+pub mod DeedLaws
+pub mod WalkLaws
+pub mod PartLaws
+pub mod RingProof
+pub mod RunProof
+pub mod KeptLaws
+pub mod TiedProof
