@@ -34,10 +34,10 @@ use Rattle.lists.proofs.PartLaws.{part-written, part-untouched}
 
 -- a list changed at one number
 
-at-same : {B : Type 0} (f : ℕ → B) (k : ℕ) (v : B) → at f k v k ≡ v
+pub at-same : {B : Type 0} (f : ℕ → B) (k : ℕ) (v : B) → at f k v k ≡ v
 at-same f k v = rw (eq-eqb k k refl)
 
-at-other : {B : Type 0} (f : ℕ → B) (k : ℕ) (v : B) (j : ℕ) → (j ≡ k → ⊥) → at f k v j ≡ f j
+pub at-other : {B : Type 0} (f : ℕ → B) (k : ℕ) (v : B) (j : ℕ) → (j ≡ k → ⊥) → at f k v j ≡ f j
 at-other f k v j d = rw (ne-eqb j k d)
 
 -- two functions that agree still do when both are changed alike at one number

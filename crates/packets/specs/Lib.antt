@@ -1,0 +1,4 @@
+pub mod Ledger
+pub mod Journal
+pub mod Integrity
+pub mod Since
