@@ -35,7 +35,7 @@ use Rattle.lists.proofs.DeedLaws.{frontIn, grant, Stands, Moves, Taken,
 use Rattle.lists.proofs.RingProof.{Lists, shows-empty, shows-full, shows-front}
 use Rattle.lists.proofs.RingProof.{mode-tied, output-tied, drop-tied, append-tied}
 
-routed-below : (n : ℕ) (x : Machine) → Sound n x → (i o : ℕ) → i < 11 → exact .mode x i ≡ Routed o → o < 11
+pub routed-below : (n : ℕ) (x : Machine) → Sound n x → (i o : ℕ) → i < 11 → exact .mode x i ≡ Routed o → o < 11
 routed-below n x sound i o h e = subst (ModeOk (outputAt (x .router)) i) e (sound .agree .inputs i h) .0
 
 -- what is read from a store is read as it is when it is stored again

@@ -236,6 +236,6 @@ module _ (was : Model) (l : Ledger) (N : ℕ) (table : List ℕ) (stood : List·
             (spilt-entered (s .finished) (λ o. refl) e rested left-out (λ o. refl) nothing)
         go (since clean p) =
             let last = ending was l y s i h c rest held spilt in
-            finishes was l y s i h c rest held Spilling clean p spilt 
+            finishes was l y s i h c rest held Spilling clean p spilt
             (p .mode .0, whole-read (l .lent) (here .header) (here .cargo) c rest (p .mode .1)) ended rested rested-next
             (spilt-entered (s .finished ++ last ∷ []) (λ o. sent-elsewhere (s .finished) last o refl) e rested left-out (λ o. refl) nothing)

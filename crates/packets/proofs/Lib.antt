@@ -4,3 +4,6 @@ pub mod InputLaws
 pub mod HeadLaws
 pub mod DeedProofs
 pub mod MoveProofs
+pub mod RoundProof
+pub mod CallProofs
+pub mod SinceProof

@@ -91,7 +91,7 @@ module _ (was : Model) (l : Ledger) (N : ℕ) (table : List ℕ) (stood : List·
           ++ (sentTo p (s .finished) ++ byOwner (at (s .parts) i here) (at (y .outputs) o (record { owner = By i; last = i }) p .owner))
       entered none p q clear (yes e) =
           rw (e, eq-eqb o o refl, mine-moved (s .parts) i here, none) (rw (e, free) at (s .outputs p q clear))
-      entered none p q clear (no d) = 
+      entered none p q clear (no d) =
           rw (ne-eqb p o d, owner-same (s .parts) i here (y .outputs p .owner) (λ w. refl)) (s .outputs p q clear)
 
   -- it moves an N-Char
@@ -139,8 +139,11 @@ module _ (was : Model) (l : Ledger) (N : ℕ) (table : List ℕ) (stood : List·
         l .taken p ++ carried .held (outputStore p)
         ≡ was .held (outputStore p) ++ (sent′ ++ byOwner (at (s .parts) i part′) (y .outputs p .owner))
     elsewhere p q d clear part′ sent′ e =
-        rw (carried-elsewhere p d, e, 
-        owner-same (s .parts) i part′ (y .outputs p .owner) (λ w. absurd (not-mine p q d w))) (s .outputs p q clear)
+        rw (
+          carried-elsewhere p d,
+          e,
+          owner-same (s .parts) i part′ (y .outputs p .owner) (λ w. absurd (not-mine p q d w)),
+        ) (s .outputs p q clear)
 
     carried-next : Next was l y s i h carried rest (Routed o)
     carried-next =

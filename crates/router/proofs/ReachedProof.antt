@@ -28,15 +28,15 @@ use Rattle.router.specs.Reached.{Reached, fresh, put, take, run, NeverSp
 
 -- fresh
 
-fresh-mode : (i : ℕ) → i < 11 → modeAt freshRouter i ≡ Idle
+pub fresh-mode : (i : ℕ) → i < 11 → modeAt freshRouter i ≡ Idle
 unfolding freshRouter
 fresh-mode i h = rw (lt-ltb i 11 h, getD-replicate 11 i idle idle h)
 
-fresh-output : (o : ℕ) → o < 11 → outputAt freshRouter o ≡ free
+pub fresh-output : (o : ℕ) → o < 11 → outputAt freshRouter o ≡ free
 unfolding freshRouter
 fresh-output o h = rw (lt-ltb o 11 h, getD-replicate 11 o free noOutput h)
 
-fresh-store : (k : ℕ) → k < 22 → storeAt freshRouter k ≡ freshStore
+pub fresh-store : (k : ℕ) → k < 22 → storeAt freshRouter k ≡ freshStore
 unfolding freshRouter
 fresh-store k h = rw (lt-ltb k 22 h, getD-replicate 22 k freshStore freshStore h)
 
