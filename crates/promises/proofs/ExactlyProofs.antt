@@ -21,7 +21,9 @@ use Rattle.link.specs.declared.Dispatch.{Dispatch}
 use Rattle.link.specs.declared.Receipt.{Receipt}
 use Rattle.link.specs.declared.Taken.{Taken}
 use Rattle.router.specs.Calls.{Put, puts, Took, tookOne, takes, Run, told as routerTold, runs, readsRow}
+use Rattle.router.specs.Held.{heldThrough, heldRefused, stillHeld}
 use Rattle.router.specs.declared.RowRead.{RowRead}
+use Rattle.router.specs.declared.StillHeld.{StillHeld}
 use Rattle.promises.specs.Exactly.{Exactly, RefusedExactly}
 
 -- what is read off an answer that is accepted where the number is 0, and refused with the number elsewhere, is the number
@@ -37,7 +39,7 @@ unfolding
     encodeAnswer sent encodeRefused bitAnswer tickAnswer decodeAccepted decodeRefused refusedWith answered accepted refused
     tickOutcome faultOutcome controlOutcome resetOutcome dispatchOf dispatched sendRefused sendOutcome receiptOf received
     receiveRefused tokenAccepted receiveOutcome putAnswer takeAccepted takeRefused takeAnswer offerAccepted offerAnswer
-    puts tookOne takes routerTold runs readsRow
+    puts tookOne takes routerTold runs readsRow heldThrough heldRefused stillHeld
 refused-exactly =
     record {
       encode = λ e t. record { first = told (λ (a : Encoded). a .refusal) _ _ _ refl refl; ordered = refl };
@@ -57,4 +59,5 @@ refused-exactly =
       router-take = λ x port. record { first = told (λ (o : Took). o .refusal) _ _ _ refl refl; ordered = refl };
       router-run = λ x table limit. record { first = told (λ (o : Run). o .refusal) _ _ _ refl refl; ordered = refl };
       router-read = λ s table row. record { first = told (λ (o : RowRead). o .refusal) _ _ _ refl refl; ordered = refl };
+      router-held = λ s port. record { first = told (λ (o : StillHeld). o .refusal) _ _ _ refl refl; ordered = refl };
     }

@@ -19,6 +19,8 @@ use Rattle.router.proofs.write_row.Kinds as write-row-kinds
 use Rattle.router.proofs.write_row.Reads as write-row-reads
 use Rattle.router.proofs.read_row.Kinds as read-row-kinds
 use Rattle.router.proofs.read_row.Reads as read-row-reads
+use Rattle.router.proofs.still_held.Kinds as still-held-kinds
+use Rattle.router.proofs.still_held.Reads as still-held-reads
 
 pub fresh : OneResult 0 fresh-kinds.ps fresh-kinds.r fresh-reads.Post
 fresh κs a x y s t p q = p ∙ sym q
@@ -58,3 +60,6 @@ write-row-table κs a x y s t p q = p .1 ∙ sym (q .1)
 
 pub read-row : OneResult 1 read-row-kinds.ps read-row-kinds.r read-row-reads.Post
 read-row κs a x y s t p q = p ∙ sym q
+
+pub still-held : OneResult 0 still-held-kinds.ps still-held-kinds.r still-held-reads.Post
+still-held κs a x y s t p q = p ∙ sym q

@@ -22,8 +22,9 @@ use Rattle.link.specs.declared.Link.{Link}
 use Rattle.ports.specs.Places.{Machine}
 use Rattle.ports.specs.declared.Router.{Router as RouterState}
 use Rattle.router.specs.Refusals.{putTests as routerPutTests, takeTests as routerTakeTests}
-use Rattle.router.specs.Refusals.{runTests as routerRunTests, rowTests as routerRowTests}
+use Rattle.router.specs.Refusals.{runTests as routerRunTests, rowTests as routerRowTests, heldTests as routerHeldTests}
 use Rattle.router.specs.Calls.{puts, takes, runs, readsRow}
+use Rattle.router.specs.Held.{stillHeld}
 
 -- a call that answers this refusal, by these tests
 pub record Exactly (answered : ℕ) (tests : List Test) : Type 0 where
@@ -53,3 +54,4 @@ pub record RefusedExactly : Type 0 where
   pub router-run : (x : Machine) (table : List ℕ) (limit : ℕ) → Exactly ((runs x table limit) .refusal) (routerRunTests x limit)
   pub router-read : (s : RouterState) (table : List ℕ) (row : ℕ) →
       Exactly ((readsRow s table row) .refusal) (routerRowTests s row)
+  pub router-held : (s : RouterState) (port : ℕ) → Exactly ((stillHeld s port) .refusal) (routerHeldTests s port)

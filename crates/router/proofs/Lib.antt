@@ -1,3 +1,5 @@
 pub mod RefusalLaws
+pub mod HeldLaws
+pub mod HeldProof
 pub mod CaseProofs
 pub mod ReachedProof

@@ -8,7 +8,8 @@ use borrow.Author.Tests.{ltb-false}
 use Rattle.vocabulary.specs.Choice.{pick}
 use Rattle.ports.specs.Places.{Machine, badArea}
 use Rattle.ports.specs.Refusals.{badPorts, badStores}
-use Rattle.router.specs.Refusals.{lentRefusal, noPort, takeRefusal}
+use Rattle.ports.specs.declared.Router.{Router}
+use Rattle.router.specs.Refusals.{lentRefusal, noPort, takeRefusal, heldRefusal}
 
 pub passed : (b : Bool) (k later : ℕ) → pick b (suc k) later ≡ 0 → (b ≡ false) × (later ≡ 0)
 passed true k later h = absurd (omega arith)
@@ -30,4 +31,9 @@ lent-accepts x later h =
 pub take-accepts : (x : Machine) (port : ℕ) → takeRefusal x port ≡ 0 → port < 11
 take-accepts x port h =
     let below = ltb-false 10 port (passed (noPort port) 2 _ (lent-accepts x _ h .later) .0) in
+    omega arith
+
+pub held-accepts : (s : Router) (port : ℕ) → heldRefusal s port ≡ 0 → port < 11
+held-accepts s port h =
+    let below = ltb-false 10 port (passed (noPort port) 2 0 (passed (badPorts s) 0 _ h .1) .0) in
     omega arith

@@ -1,4 +1,5 @@
 pub mod Refusals
 pub mod Calls
+pub mod Held
 pub mod Cases
 pub mod Reached

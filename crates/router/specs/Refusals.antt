@@ -1,5 +1,5 @@
 -- 01, The ten refusals, as far as they concern the router: what each call tests, in the paper's order. "A call tests what it
--- is lent": put, take and run the state and the area, the two row calls the state.
+-- is lent": put, take and run the state and the area, the two row calls and the question what is still held the state.
 -- Assumes nothing.
 use Prim.Native.Nat.{ℕ}
 use mathlib.Core.Bool.{Bool}
@@ -53,3 +53,9 @@ rowTests s row = test STATE (badPorts s) ∷ test ROW (outsideRows row) ∷ []
 
 abbrev pub rowRefusal : Router → ℕ → ℕ
 rowRefusal s row = firstOf (rowTests s row)
+
+abbrev pub heldTests : Router → ℕ → List Test
+heldTests s port = test STATE (badPorts s) ∷ test PORT (noPort port) ∷ []
+
+abbrev pub heldRefusal : Router → ℕ → ℕ
+heldRefusal s port = firstOf (heldTests s port)

@@ -1,13 +1,18 @@
-// The router (01, The router): put, take, run and the rows of its table. The state is a value, the area and the
-// table are lent.
+// The router (01, The router): put, take, run, the rows of its table, and what is still held through a port. The state is a
+// value, the area and the table are lent.
 ghost use mathlib.Core.Path.{_≡_};
 ghost use Prim.Native.Nat.{_<_};
 ghost use Rattle.store.specs.Ring.{empty};
 ghost use Rattle.ports.specs.Ports.{freshRouter, storeAt, outputStore};
 ghost use Rattle.ports.specs.Places.{machine};
-ghost use Rattle.router.specs.Refusals.{lentRefusal, putRefusal, takeRefusal, runRefusal, rowRefusal};
+ghost use Rattle.router.specs.Refusals.{lentRefusal, putRefusal, takeRefusal, runRefusal, rowRefusal, heldRefusal};
 ghost use Rattle.router.specs.Calls.{putOf, puts, tookOf, tookOne, takes, ranOf, runs, writesRow, readsRow};
+ghost use Rattle.router.specs.Held.{heldRefused, stillHeld};
+use ports::Mode;
+use ports::Owner;
 use ports::Router;
+
+mod held;
 
 pub struct Answer {
     pub refusal: u8,
@@ -32,6 +37,20 @@ pub struct Ran {
 pub struct RowRead {
     pub refusal: u8,
     pub value: u32,
+}
+
+// What is held through a port: what its input does and how many N-Chars wait there, who holds its output and how many wait
+// there, and which inputs wait for it, bit i for input i. `nothing` says that none of these is anything; `unread` has the
+// inputs whose waiting N-Chars no round has moved yet, to whatever port they are addressed.
+pub struct StillHeld {
+    pub refusal: u8,
+    pub mode: Mode,
+    pub unmoved: usize,
+    pub owner: Owner,
+    pub untaken: usize,
+    pub wanted: u16,
+    pub unread: u16,
+    pub nothing: bool,
 }
 
 // Idle inputs, free outputs, empty stores.
@@ -190,5 +209,39 @@ pub fn read_row(s: Router, table: &[u32; 256], row: usize) -> RowRead
             refusal: number,
             value: 0,
         }
+    }
+}
+
+fn held_refusal(s: Router, port: usize) -> u8
+    ensures { λ r. ⌜ r ≡ heldRefusal s port ⌝ }
+{
+    let number = vocabulary::refuse(10 < port, vocabulary::PORT, 0);
+    vocabulary::refuse(ports::bad_ports(s), vocabulary::STATE, number)
+}
+
+fn held_refused(number: u8) -> StillHeld
+    ensures { λ r. ⌜ r ≡ heldRefused number ⌝ }
+{
+    StillHeld {
+        refusal: number,
+        mode: Mode::Idle,
+        unmoved: 0,
+        owner: Owner::Free,
+        untaken: 0,
+        wanted: 0,
+        unread: 0,
+        nothing: false,
+    }
+}
+
+// Who still holds something through a port, as a console asks at logout: `still_held(s, 1)`.
+pub fn still_held(s: Router, port: usize) -> StillHeld
+    ensures { λ r. ⌜ r ≡ stillHeld s port ⌝ }
+{
+    let number = held_refusal(s, port);
+    if number == 0 {
+        held::through(s, port)
+    } else {
+        held_refused(number)
     }
 }

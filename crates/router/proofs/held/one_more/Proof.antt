@@ -1,0 +1,15 @@
+-- `router::held::one_more` meets its contract.
+-- Assumes nothing.
+use borrow.Author.Needs.{needs}
+use Rattle.router.proofs.held.one_more.Statement.{statement}
+use Rattle.router.proofs.held.one_more.Tie as tie
+
+pub one-more-spec : {M : Type 1} → statement M
+one-more-spec =
+    tie.close
+    (tie.spec
+    (λ c. search needs)
+    (λ c. search needs)
+    (λ c. search needs)
+    (λ c. rw (c .if1 .taken))
+    (λ c. rw (c .if1 .left)))
