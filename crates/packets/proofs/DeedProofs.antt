@@ -42,6 +42,7 @@ use Rattle.packets.proofs.InputLaws.{ending, finishes, moved, goes-on, 
 pub record Owners (y : Model) : Type 0 where
   pub routed : (i o : ℕ) → i < 11 → y .modes i ≡ Routed o → (o < 11) × (y .outputs o .owner ≡ By i)
   pub owned : (o i : ℕ) → o < 11 → y .outputs o .owner ≡ By i → y .modes i ≡ Routed o
+  pub inside : (o i : ℕ) → o < 11 → y .outputs o .owner ≡ By i → i < 11
 
 spilling-unrouted : (o : ℕ) → _≡_ {A = Mode} Spilling (Routed o) → ⊥
 spilling-unrouted o e = let z : _≡_ {A = ℕ} 0 1 = cc in omega arith

@@ -7,3 +7,4 @@ pub mod MoveProofs
 pub mod RoundProof
 pub mod CallProofs
 pub mod SinceProof
+pub mod HeldProof

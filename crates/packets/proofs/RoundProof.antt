@@ -30,6 +30,12 @@ use Rattle.packets.specs.Since.{Since}
 use Rattle.packets.proofs.DeedProofs.{Owners, empties, strays, waits-on, spills, rests}
 use Rattle.packets.proofs.MoveProofs.{grants, carries-on, closes}
 
+owner-ok : (n : ℕ) (x : Machine) (y : Model) → Lists n x y → (o i : ℕ) → o < 11 → y .outputs o .owner ≡ By i →
+    OwnerOk (modeAt (x .router)) o (By i)
+owner-ok n x y r o i k e =
+    subst (OwnerOk (modeAt (x .router)) o) (ap (λ (out : Output). out .owner) (r .tied .outputs o) ∙ e)
+    (r .sound .agree .owners o k)
+
 pub lists-owners : (n : ℕ) (x : Machine) (y : Model) → Lists n x y → Owners y
 lists-owners n x y r =
     record {
@@ -37,10 +43,8 @@ lists-owners n x y r =
           let m : ModeOk (outputAt (x .router)) i (Routed o) =
           subst (ModeOk (outputAt (x .router)) i) (r .tied .modes i ∙ e) (r .sound .agree .inputs i h) in
           (m .0, ap (λ (out : Output). out .owner) (sym (r .tied .outputs o)) ∙ m .1);
-      owned = λ o i k e.
-          let w : OwnerOk (modeAt (x .router)) o (By i) =
-          subst (OwnerOk (modeAt (x .router)) o) (ap (λ (out : Output). out .owner) (r .tied .outputs o) ∙ e) (r .sound .agree .owners o k) in
-          sym (r .tied .modes i) ∙ w .1;
+      owned = λ o i k e. sym (r .tied .modes i) ∙ owner-ok n x y r o i k e .1;
+      inside = λ o i k e. owner-ok n x y r o i k e .0;
     }
 
 module _ (was : Model) (l : Ledger) (n : ℕ) (table : List ℕ) (stood : List·Memᴰ table (l .lent)) where

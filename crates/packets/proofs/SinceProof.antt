@@ -98,6 +98,13 @@ packets-since x r calls =
     let l = after (opened x) calls in
     tied-since (listsOf x) l (l .now) (kept .lists) (kept .tied .tied) (kept .since)
 
+-- after any calls, an owner is routed to its output, and a routed input owns it
+pub reached-owners : (x : Machine) → Reached x → (calls : List Call) → Owners (listsOf (after (opened x) calls .now))
+reached-owners x r calls =
+    let kept = calls-kept x r (opened x) calls (start x r) in
+    let now = after (opened x) calls .now in
+    lists-owners (length (x .area)) now (listsOf now) (record { sound = kept .tied .sound; tied = self-tied now })
+
 -- from fresh nothing is held, and nobody is in a packet
 
 module _ (area : List ℕ) (good : badArea area ≡ false) where

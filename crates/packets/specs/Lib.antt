@@ -2,3 +2,4 @@ pub mod Ledger
 pub mod Journal
 pub mod Integrity
 pub mod Since
+pub mod NothingHeld
