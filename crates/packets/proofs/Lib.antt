@@ -8,3 +8,4 @@ pub mod RoundProof
 pub mod CallProofs
 pub mod SinceProof
 pub mod HeldProof
+pub mod ReadingProof
