@@ -58,6 +58,14 @@ set-bit member from (suc count) (suc i) h =
     ∙ set-bit member (from + 1) count i (le-of-suc-le-suc h)
     ∙ ap member same
 
+-- a set without members is empty
+pub no-members : (member : ℕ → Bool) → ((i : ℕ) → i < 11 → member i ≡ false) → (from count : ℕ) → from + count ≤ 11 →
+    setOf member from count ≡ 0
+unfolding setOf
+no-members member none from zero h = refl
+no-members member none from (suc count) h =
+    rw (no-members member none (from + 1) count (omega arith), none from (omega arith)) refl
+
 -- the loop's step: from the last port down
 pub set-next : (member : ℕ → Bool) (i : ℕ) → 0 < i → i ≤ 11 →
     setOf member (i - 1) (11 - (i - 1)) ≡ behind (setOf member i (11 - i)) (member (i - 1))

@@ -16,10 +16,11 @@ use Rattle.ports.specs.declared.Owner.the-variants.{Free, By}
 use Rattle.ports.specs.declared.Router.{Router}
 use Rattle.rounds.specs.Grants.{waitsFor}
 use Rattle.router.specs.Refusals.{heldRefusal}
+use Rattle.router.specs.declared.StillHeld.{StillHeld}
 use Rattle.router.specs.Held.{awaits, unmovedAt, setOf, wantedBy, unread}
 use Rattle.router.specs.Held.{nothingAtInput, nothingAtOutput, nothingHeld}
 use Rattle.router.specs.Held.{heldThrough, heldRefused, stillHeld, SetsSay, NothingHeld, NothingUnread, HeldSays}
-use Rattle.router.proofs.HeldLaws.{set-bit, set-small, empty-bit}
+use Rattle.router.proofs.HeldLaws.{set-bit, set-small, empty-bit, no-members}
 
 -- the sets
 
@@ -68,9 +69,9 @@ out-says Free untaken wanted h =
     (refl, eqb-true untaken 0 (two .0), eqb-true wanted 0 (two .1))
 out-says (By i) untaken wanted h = (cc, cc, cc)
 
-held-says-nothing : (s : Router) (port : ℕ) → nothingHeld s port ≡ true → NothingHeld s port
+mark-means : (s : Router) (port : ℕ) → nothingHeld s port ≡ true → NothingHeld s port
 unfolding nothingHeld
-held-says-nothing s port h =
+mark-means s port h =
     let two =
     both-hold (nothingAtInput (modeAt s port) (storeAt s (inputStore port) .len))
     (nothingAtOutput (outputAt s port .owner) (storeAt s (outputStore port) .len) (wantedBy s port)) h in
@@ -85,6 +86,12 @@ held-says-nothing s port h =
       unwanted = λ i b.
           sym (sets-say s port .wanted-bit i b) ∙ ap (λ (set : ℕ). wants set i) (output .2) ∙ empty-bit i;
     }
+
+mark-follows : (s : Router) (port : ℕ) → NothingHeld s port → nothingHeld s port ≡ true
+unfolding nothingHeld wantedBy
+mark-follows s port none =
+    let unwanted = no-members (λ (i : ℕ). awaits port (modeAt s i)) (none .unwanted) 0 11 (omega arith) in
+    rw (none .mode, none .unmoved, none .owner, none .untaken, unwanted) refl
 
 none-unmoved : (len : ℕ) → not (leb len 0) ≡ false → len ≡ 0
 none-unmoved len h = at (leb len 0) refl h
@@ -101,28 +108,50 @@ unread-says s h =
           (sym (sets-say s 0 .unread-bit i b) ∙ ap (λ (set : ℕ). wants set i) h ∙ empty-bit i);
     }
 
+unread-none : (s : Router) → NothingUnread s → unread s ≡ 0
+unfolding unread
+unread-none s none =
+    no-members (unmovedAt s) (λ i b. ap (λ (len : ℕ). not (leb len 0)) (none .empty i b)) 0 11 (omega arith)
+
 -- as the call answers them
 
-answered-nothing : (s : Router) (port number : ℕ) (b : Bool) →
-    pick b (heldThrough s port) (heldRefused number) .nothing ≡ true → nothingHeld s port ≡ true
-unfolding heldThrough heldRefused
-answered-nothing s port number true h = h
-answered-nothing s port number false h = cc
-
-answered-unread : (s : Router) (port number : ℕ) (b : Bool) → eqb number 0 ≡ b →
+accepted : (s : Router) (port number : ℕ) (b : Bool) → eqb number 0 ≡ b →
     pick b (heldThrough s port) (heldRefused number) .refusal ≡ 0 →
-    pick b (heldThrough s port) (heldRefused number) .unread ≡ 0 → unread s ≡ 0
+    pick b (heldThrough s port) (heldRefused number) ≡ heldThrough s port
+unfolding heldRefused
+accepted s port number true e r = refl
+accepted s port number false e r = absurd (eqb-false number 0 e r)
+
+answered : (s : Router) (port : ℕ) → stillHeld s port .refusal ≡ 0 → stillHeld s port ≡ heldThrough s port
+unfolding stillHeld
+answered s port r = accepted s port (heldRefusal s port) (eqb (heldRefusal s port) 0) refl r
+
+-- a refusal is never taken for nothing held
+not-refused : (s : Router) (port number : ℕ) (b : Bool) →
+    pick b (heldThrough s port) (heldRefused number) .nothing ≡ true →
+    pick b (heldThrough s port) (heldRefused number) .refusal ≡ 0
 unfolding heldThrough heldRefused
-answered-unread s port number true e r h = h
-answered-unread s port number false e r h = absurd (eqb-false number 0 e r)
+not-refused s port number true h = refl
+not-refused s port number false h = cc
+
+-- refused or not, nothing unread is answered as none
+either-unread : (s : Router) (port number : ℕ) (b : Bool) → unread s ≡ 0 →
+    pick b (heldThrough s port) (heldRefused number) .unread ≡ 0
+unfolding heldThrough heldRefused
+either-unread s port number true h = h
+either-unread s port number false h = refl
 
 pub held-says : HeldSays
-unfolding stillHeld
+unfolding heldThrough stillHeld
 held-says =
     record {
       waits = either-priority;
       sets = sets-say;
       nothing-held = λ s port h.
-          held-says-nothing s port (answered-nothing s port (heldRefusal s port) (eqb (heldRefusal s port) 0) h);
-      nothing-unread = λ s port r h. unread-says s (answered-unread s port (heldRefusal s port) _ refl r h);
+          let r = not-refused s port (heldRefusal s port) (eqb (heldRefusal s port) 0) h in
+          (r, mark-means s port (sym (ap (λ (a : StillHeld). a .nothing) (answered s port r)) ∙ h));
+      held-nothing = λ s port r none. ap (λ (a : StillHeld). a .nothing) (answered s port r) ∙ mark-follows s port none;
+      nothing-unread = λ s port r h. unread-says s (sym (ap (λ (a : StillHeld). a .unread) (answered s port r)) ∙ h);
+      unread-nothing = λ s port none.
+          either-unread s port (heldRefusal s port) (eqb (heldRefusal s port) 0) (unread-none s none);
     }

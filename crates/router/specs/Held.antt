@@ -116,11 +116,16 @@ pub record NothingHeld (s : Router) (port : ℕ) : Type 0 where
 pub record NothingUnread (s : Router) : Type 0 where
   pub empty : (i : ℕ) → i < 11 → storeAt s (inputStore i) .len ≡ 0
 
--- What the call's answer says: the two marks that a console looks at mean what they say.
+-- What the call's answer says: the two marks that a console looks at are on exactly where they should be, and neither is
+-- taken for granted from a refusal.
 pub record HeldSays : Type 0 where
   -- an input waits for an output just where part 2 of a round sees it wait, "high priority before low"
   pub waits : (port : ℕ) (m : Mode) → awaits port m ≡ waitsFor port true m || waitsFor port false m
   pub sets : (s : Router) (port : ℕ) → SetsSay s port
-  pub nothing-held : (s : Router) (port : ℕ) → stillHeld s port .nothing ≡ true → NothingHeld s port
+  pub nothing-held : (s : Router) (port : ℕ) → stillHeld s port .nothing ≡ true →
+      (stillHeld s port .refusal ≡ 0) × NothingHeld s port
+  pub held-nothing : (s : Router) (port : ℕ) → stillHeld s port .refusal ≡ 0 → NothingHeld s port →
+      stillHeld s port .nothing ≡ true
   pub nothing-unread : (s : Router) (port : ℕ) → stillHeld s port .refusal ≡ 0 → stillHeld s port .unread ≡ 0 →
       NothingUnread s
+  pub unread-nothing : (s : Router) (port : ℕ) → NothingUnread s → stillHeld s port .unread ≡ 0
