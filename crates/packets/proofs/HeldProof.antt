@@ -42,10 +42,6 @@ accepted s port e = go (eqb (heldRefusal s port) 0) refl e
     go true f g = eqb-true (heldRefusal s port) 0 f
     go false f g = absurd (false≢true g)
 
-answered : (s : Router) (port : ℕ) → heldRefusal s port ≡ 0 → stillHeld s port .refusal ≡ 0
-unfolding stillHeld heldThrough
-answered s port e = rw e
-
 port-below : (s : Router) (port : ℕ) → heldRefusal s port ≡ 0 → port < 11
 port-below s port e =
     let rest : List Test = test PORT (noPort port) ∷ [] in
@@ -58,7 +54,7 @@ none-waits x k e =
 
 pub nothing-held-is-clear : NothingHeldIsClear
 nothing-held-is-clear x port e =
-    let none = held-says .nothing-held (x .router) port e in
+    let none = held-says .nothing-held (x .router) port e .1 in
     record {
       free = none .owner;
       unwanted = λ i h w f. ap (awaits port) (sym f) ∙ none .unwanted i h;
@@ -73,10 +69,10 @@ module _ (x : Machine) (port : ℕ) (said : stillHeld (x .router) port .nothing 
   below = port-below (x .router) port (accepted (x .router) port said)
 
   none : NothingHeld (x .router) port
-  none = held-says .nothing-held (x .router) port said
+  none = held-says .nothing-held (x .router) port said .1
 
   unwaiting : NothingUnread (x .router)
-  unwaiting = held-says .nothing-unread (x .router) port (answered (x .router) port (accepted (x .router) port said)) read
+  unwaiting = held-says .nothing-unread (x .router) port (held-says .nothing-held (x .router) port said .0) read
 
   clear : Clear was port
   clear = nothing-held-is-clear x port said
