@@ -28,6 +28,12 @@ pub fn narrow(n: usize) -> u32
     (n % 4294967296) as u32
 }
 
+pub fn wide(word: u32) -> usize
+    ensures { λ r. ⌜ r ≡ word ⌝ }
+{
+    word as usize
+}
+
 // A number in 16 bits, the largest where it does not fit.
 pub fn fitted(n: u32) -> u16
     ensures { λ r. ⌜ r ≡ fitted n ⌝ }
