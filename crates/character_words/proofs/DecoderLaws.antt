@@ -1,0 +1,81 @@
+-- A decoder's words give it back, phase by phase; a refused call hands the decoder back, and its words are those that it was
+-- loaded from.
+-- Assumes nothing.
+use Prim.Native.Nat.{ℕ, _%_, _<_}
+use mathlib.Core.Path.{_≡_, refl, sym}
+use mathlib.Core.Bool.{Bool, true, false}
+use mathlib.Core.List.{List}
+use native.Mathlib.Omega.{arith}
+use lib.Dec.{eqb}
+use Rattle.vocabulary.specs.Choice.{pick}
+use Rattle.vocabulary.specs.declared.Token.the-variants.{Null, Fct, NChar, TimeCode}
+use Rattle.words.specs.Words.{Stays, truth, truthWord}
+use Rattle.words.proofs.SameLaws.{same-is}
+use Rattle.words.proofs.StayLaws.{pick-stays}
+use Rattle.words.proofs.TokenLaws.{token-back}
+use Rattle.characters.specs.Decoder.{bitStep, tickStep}
+use Rattle.characters.specs.Refusals.{decoderRefusal}
+use Rattle.characters.specs.Calls.{bitAnswer, tickAnswer, decodeAccepted, decodeRefused}
+use Rattle.characters.specs.declared.decoder.Waiting.{Waiting}
+use Rattle.characters.specs.declared.decoder.Waiting.the-variants.{Reported, Whole, Esc}
+use Rattle.characters.specs.declared.decoder.Phase.the-variants.{Hunting, Between, Parity, Data, Control, Second}
+use Rattle.characters.specs.declared.decoder.Decoder.{Decoder}
+use Rattle.characters.specs.declared.decoder.Decoder.the-variants.{Fresh, Heard, Stopped}
+use Rattle.characters.specs.declared.decoder.Step.{Step}
+use Rattle.character_words.specs.DecoderWords.{waitingNumber, waitingValue, waitingOf, decoderWords, decoderFrom}
+use Rattle.character_words.specs.DecoderWords.{decoderOf, decoded, noDecoder, bitLeft, tickLeft, isDecoder}
+use Rattle.character_words.specs.DecoderWords.{FitsWaiting, FitsDecoder, KeepsDecoders}
+
+byte-back : (n : ℕ) → n < 256 → n % 256 ≡ n
+byte-back n h = omega arith
+
+truth-back : (b : Bool) → truth (truthWord b) ≡ b
+truth-back true = refl
+truth-back false = refl
+
+waiting-back : (w : Waiting) → FitsWaiting w → waitingOf (waitingNumber w) (waitingValue w) ≡ w
+unfolding waitingOf
+waiting-back Reported h = refl
+waiting-back (Whole Null) h = rw (token-back Null h)
+waiting-back (Whole Fct) h = rw (token-back Fct h)
+waiting-back (Whole (NChar n)) h = rw (token-back (NChar n) h)
+waiting-back (Whole (TimeCode v)) h = rw (token-back (TimeCode v) h)
+waiting-back Esc h = refl
+
+decoder-back : (d : Decoder) → FitsDecoder d → decoderOf (decoderWords d) ≡ d
+unfolding decoderOf decoderFrom
+decoder-back Fresh h = refl
+decoder-back (Heard (Hunting places) silent) (s, h) = rw (byte-back silent s, byte-back places h)
+decoder-back (Heard (Between w) silent) (s, h) = rw (byte-back silent s, waiting-back w h)
+decoder-back (Heard (Parity w p) silent) (s, h) = rw (byte-back silent s, waiting-back w h, truth-back p)
+decoder-back (Heard (Data escape places) silent) (s, h) =
+    rw (byte-back silent s, truth-back escape, byte-back places h)
+decoder-back (Heard (Control escape) silent) (s, h) = rw (byte-back silent s, truth-back escape)
+decoder-back (Heard (Second escape a) silent) (s, h) = rw (byte-back silent s, truth-back escape, truth-back a)
+decoder-back Stopped h = refl
+
+decoded-stays : (words : List ℕ) (d : Decoder) (s : Step) (n : ℕ) (test : Bool) → decoderWords d ≡ words →
+    Stays words (decoded (pick test (decodeAccepted s) (decodeRefused d n)))
+unfolding decoded decodeAccepted decodeRefused
+decoded-stays words d s n true same refused = absurd (refused refl)
+decoded-stays words d s n false same refused = same
+
+own : (words : List ℕ) → isDecoder words ≡ true → decoderWords (decoderOf words) ≡ words
+own words p = sym (same-is words _ p)
+
+bit-stays : (words : List ℕ) (b : ℕ) → Stays words (bitLeft words b)
+unfolding bitLeft bitAnswer noDecoder
+bit-stays words b =
+    pick-stays words (isDecoder words) _ _
+    (λ p. decoded-stays words (decoderOf words) (bitStep (decoderOf words) (truth b)) _ (eqb (decoderRefusal (decoderOf words)) 0) (own words p))
+    (λ refused. refl)
+
+tick-stays : (words : List ℕ) → Stays words (tickLeft words)
+unfolding tickLeft tickAnswer noDecoder
+tick-stays words =
+    pick-stays words (isDecoder words) _ _
+    (λ p. decoded-stays words (decoderOf words) (tickStep (decoderOf words)) _ (eqb (decoderRefusal (decoderOf words)) 0) (own words p))
+    (λ refused. refl)
+
+pub keeps-decoders : KeepsDecoders
+keeps-decoders = record { back = decoder-back; bit-stays = bit-stays; tick-stays = tick-stays }

@@ -1,0 +1,2 @@
+pub mod DecoderWords
+pub mod EncoderWords

@@ -1,0 +1,3 @@
+// Decoders and encoders as words of 32 bits, for a program in C to keep.
+pub mod decoder;
+pub mod encoder;

@@ -1,0 +1,2 @@
+pub mod RouterWords
+pub mod RouterCalls

@@ -1,0 +1,3 @@
+pub mod SameLaws
+pub mod StayLaws
+pub mod TokenLaws
