@@ -7,3 +7,5 @@ pub mod HoldLaws
 pub mod EventLaws
 pub mod StepLaws
 pub mod PacketsProof
+pub mod GoodLaws
+pub mod GoodProof
