@@ -9,3 +9,4 @@ pub mod StepLaws
 pub mod PacketsProof
 pub mod GoodLaws
 pub mod GoodProof
+pub mod ExampleProof
