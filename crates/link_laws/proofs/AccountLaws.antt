@@ -1,7 +1,7 @@
 -- A store's account over one change, by what the change does, and over two changes one after the other.
 -- Assumes nothing.
 use mathlib.Core.Path.{_≡_, refl, sym, ap, _∙_}
-use mathlib.Core.List.{List, [], _∷_, _++_, append-assoc, append-nil}
+use mathlib.Core.List.{List, [], _∷_, _++_, append-assoc, append-nil, cons-ne-nil}
 use Prim.Native.Nat.{ℕ}
 use Rattle.link_laws.specs.NothingLost.{Fate, wentOn, thrownAway, Entry, numbers, goesOn, onward, thrown}
 use Rattle.link_laws.specs.NothingLost.{Accounted}
@@ -89,3 +89,35 @@ then-account {before} {in₁} {between} {in₂ = in₂} {after = after} a b =
       went-on = onward-append (a .journal) (b .journal) ∙ rw (a .went-on, b .went-on);
       thrown-away = thrown-append (a .journal) (b .journal) ∙ rw (a .thrown-away, b .thrown-away);
     }
+
+-- an account in which nothing is thrown away, or nothing goes on, is one equation
+
+none-thrown : (xs : List Entry) → thrown xs ≡ [] → numbers xs ≡ onward xs
+none-thrown [] h = refl
+none-thrown (x ∷ xs) h = go (x .fate) h (none-thrown xs)
+  where
+    go : (f : Fate) → goesOn f (thrown xs) (x .nchar ∷ thrown xs) ≡ [] → (thrown xs ≡ [] → numbers xs ≡ onward xs) →
+        x .nchar ∷ numbers xs ≡ goesOn f (x .nchar ∷ onward xs) (onward xs)
+    go wentOn h rest = ap (λ (ns : List ℕ). x .nchar ∷ ns) (rest h)
+    go thrownAway h rest = absurd (cons-ne-nil (x .nchar) (thrown xs) h)
+
+none-onward-thrown : (xs : List Entry) → onward xs ≡ [] → numbers xs ≡ thrown xs
+none-onward-thrown [] h = refl
+none-onward-thrown (x ∷ xs) h = go (x .fate) h (none-onward-thrown xs)
+  where
+    go : (f : Fate) → goesOn f (x .nchar ∷ onward xs) (onward xs) ≡ [] → (onward xs ≡ [] → numbers xs ≡ thrown xs) →
+        x .nchar ∷ numbers xs ≡ goesOn f (thrown xs) (x .nchar ∷ thrown xs)
+    go wentOn h rest = absurd (cons-ne-nil (x .nchar) (onward xs) h)
+    go thrownAway h rest = ap (λ (ns : List ℕ). x .nchar ∷ ns) (rest h)
+
+pub went-on-first : {before entered after went : List ℕ} → Accounted before entered after went [] →
+    before ++ entered ≡ went ++ after
+went-on-first {after = after} a =
+    a .in-order
+    ∙ ap (λ (ns : List ℕ). ns ++ after) (none-thrown (a .journal) (a .thrown-away) ∙ a .went-on)
+
+pub thrown-first : {before entered after away : List ℕ} → Accounted before entered after [] away →
+    before ++ entered ≡ away ++ after
+thrown-first {after = after} a =
+    a .in-order
+    ∙ ap (λ (ns : List ℕ). ns ++ after) (none-onward-thrown (a .journal) (a .went-on) ∙ a .thrown-away)

@@ -10,6 +10,7 @@ pub mod EffectLaws
 pub mod TokenLaws
 pub mod SendLaws
 pub mod HostLaws
+pub mod WalkLaws
 pub mod CallLaws
 pub mod TimeLaws
 pub mod GoodEndProofs

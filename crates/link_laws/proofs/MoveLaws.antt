@@ -65,7 +65,7 @@ enter-good event e b onward =
     }
 
 -- from another state
-other-state : (s s′ : LinkState) → isState s′ s ≡ false → isState s′ ErrorReset ≡ true → isState s ErrorReset ≡ false
+pub other-state : (s s′ : LinkState) → isState s′ s ≡ false → isState s′ ErrorReset ≡ true → isState s ErrorReset ≡ false
 other-state s s′ h k =
     ne-eqb (stateNumber s) 0 λ z. eqb-false (stateNumber s′) (stateNumber s) h (eqb-true (stateNumber s′) 0 k ∙ sym z)
 

@@ -37,11 +37,11 @@ module _ (e : End) (g : Good e) where
 
   null-books : Books Null
   unfolding nullSent withStage
-  null-books = record { between = still-between Quiet g; change = still; same-state = refl; last-stored = refl }
+  null-books = record { between = still-between Quiet g; change = still; same-state = refl; same-marks = refl }
 
   time-code-books : (v : ℕ) → Books (TimeCode v)
   unfolding withOffer
-  time-code-books v = record { between = still-between Quiet g; change = still; same-state = refl; last-stored = refl }
+  time-code-books v = record { between = still-between Quiet g; change = still; same-state = refl; same-marks = refl }
 
   fct-books : isState (e .link .stage .state) Connecting || isState (e .link .stage .state) Run ≡ true →
       grants (length (e .rx)) (e .link) ≡ true → Books Fct
@@ -64,7 +64,7 @@ module _ (e : End) (g : Good e) where
             };
         change = still;
         same-state = refl;
-        last-stored = refl;
+        same-marks = refl;
       }
 
   n-char-books : hasNChar (e .link) ≡ true → Books (NChar (frontOf (e .tx) (e .link .tx)))
@@ -92,7 +92,7 @@ module _ (e : End) (g : Good e) where
               receive = unchanged (rxWaits e);
             };
         same-state = refl;
-        last-stored = refl;
+        same-marks = refl;
       }
     where
       left : List ℕ

@@ -62,7 +62,7 @@ module _ (e : End) (g : Good e) (time : Time) where
             };
         change = still;
         same-state = refl;
-        last-stored = refl;
+        same-marks = refl;
       }))
       (λ h. nothing-done e g GotFct)
 
@@ -74,7 +74,7 @@ module _ (e : End) (g : Good e) (time : Time) where
 
   null-heard : Hears (effect (gotNull (e .link)) Quiet time false)
   unfolding effect gotNull withStage
-  null-heard = record { between = still-between Quiet g; change = still; same-state = refl; last-stored = refl }
+  null-heard = record { between = still-between Quiet g; change = still; same-state = refl; same-marks = refl }
 
   abbrev HearsNChar : ℕ → Type 0
   HearsNChar n =
@@ -123,7 +123,7 @@ module _ (e : End) (g : Good e) (time : Time) where
                   receive = rw (put-appends (e .rx) (e .link .rx) n good not-full, read) (enter (rxWaits e) (n ∷ []));
                 };
             same-state = refl;
-            last-stored = refl;
+            same-marks = refl;
           })
 
   heard-effect : (t : Token) → badChar t ≡ false → ignoresToken (e .link) t ≡ false →

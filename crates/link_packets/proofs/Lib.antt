@@ -1,0 +1,12 @@
+pub mod MoveMarks
+pub mod ReadLaws
+pub mod ReceiveLaws
+pub mod ShareLaws
+pub mod TransmitLaws
+pub mod HoldLaws
+pub mod EventLaws
+pub mod StepLaws
+pub mod PacketsProof
+pub mod GoodLaws
+pub mod GoodProof
+pub mod ExampleProof

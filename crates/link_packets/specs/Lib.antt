@@ -1,0 +1,4 @@
+pub mod Stretches
+pub mod Packets
+pub mod GoodPackets
+pub mod Examples
