@@ -9,3 +9,4 @@ pub mod CallProofs
 pub mod SinceProof
 pub mod HeldProof
 pub mod ReadingProof
+pub mod IncidentProof

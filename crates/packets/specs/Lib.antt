@@ -4,3 +4,4 @@ pub mod Integrity
 pub mod Reading
 pub mod Since
 pub mod NothingHeld
+pub mod Incident
