@@ -14,7 +14,7 @@ use Rattle.link.specs.declared.Event.{Event}
 use Rattle.link.specs.declared.Controls.{Controls}
 use Rattle.link.specs.declared.Offer.{Offer}
 use Rattle.link.specs.declared.Link.{Link}
-use Rattle.joined.specs.Joined.{fctsOn, nCharsOn}
+use Rattle.joined.specs.Pair.{fctsOn, nCharsOn}
 use Rattle.joined.proofs.WireLaws.{Whole}
 use Rattle.joined.proofs.EndLaws.{stateOf, inReceive, inTransmit, isLate, Lawful, Good}
 use Rattle.joined.proofs.FlowLaws.{Opens, sendsNone, Hears, hearsNone, Accounts}

@@ -15,8 +15,9 @@ use Rattle.link.specs.Hosts.{putStored, puts, putsPlaces, takes}
 use Rattle.link.specs.Calls.{refusedWith, answered, accepted, refused, tickOutcome, controlOutcome, dispatchOf, dispatched}
 use Rattle.link.specs.Calls.{sendRefused, sendOutcome, receiptOf, received, receiveRefused, tokenAccepted, receiveOutcome}
 use Rattle.link.specs.Calls.{putAnswer, putPlacesAfter, takeAccepted, takeRefused, takeAnswer}
-use Rattle.joined.specs.Joined.{quietly, sends, hears, putsNChar, takesNChar, booked, relieved, nearActs, run}
-use Rattle.joined.specs.Joined.{ticked, start, Carries}
+use Rattle.joined.specs.Pair.{quietly, sends, hears, putsNChar, takesNChar, booked, relieved, nearActs, run}
+use Rattle.joined.specs.Pair.{ticked, start}
+use Rattle.joined.specs.Joined.{Carries}
 
 pub carries : Carries
 unfolding standing freshStore putStore putPlaces dropped freshTime settledAt noCredit freshLink withStage withControls

@@ -12,7 +12,8 @@ use lib.Seq.{drop-append-seam}
 use Rattle.vocabulary.specs.declared.Token.{Token}
 use Rattle.vocabulary.specs.declared.Token.the-variants.{Null}
 use Rattle.link.specs.Ends.{End}
-use Rattle.joined.specs.Joined.{fctsOn, nCharsOn, Node, Result, booked, relieved, underWay, Delivers}
+use Rattle.joined.specs.Pair.{fctsOn, nCharsOn, Node, Result, booked, relieved}
+use Rattle.joined.specs.Joined.{underWay, Delivers}
 use Rattle.joined.proofs.WireLaws.{fcts-append, nchars-append, nchars-add, Whole, whole-append, whole-behind}
 use Rattle.joined.proofs.EndLaws.{heldOf, givenOf, inReceive, inTransmit}
 

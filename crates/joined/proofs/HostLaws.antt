@@ -21,7 +21,7 @@ use Rattle.link.specs.Refusals.{putRefusal, takeRefusal, offerRefusal}
 use Rattle.link.specs.Calls.{refusedWith, answered, putAnswer, putPlacesAfter, takeAccepted, takeRefused, takeAnswer}
 use Rattle.link.specs.Calls.{offerAccepted, offerAnswer}
 use Rattle.link.specs.declared.Offer.the-variants.{Code}
-use Rattle.joined.specs.Joined.{Pair, put, take, offer, accepts, quietly, putsNChar, takesNChar, settledBy, nearActs}
+use Rattle.joined.specs.Pair.{Pair, put, take, offer, accepts, quietly, putsNChar, takesNChar, settledBy, nearActs}
 use Rattle.joined.proofs.TestLaws.{and-false}
 use Rattle.joined.proofs.EndLaws.{givenOf, inReceive, inTransmit, Good, record-passes, receive-passes}
 use Rattle.joined.proofs.FlowLaws.{Accounts, sendsNone, hearsNone}

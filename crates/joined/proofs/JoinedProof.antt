@@ -4,8 +4,8 @@ use mathlib.Core.Path.{_≡_, refl}
 use mathlib.Core.Bool.{Bool, true, false}
 use mathlib.Core.List.{List, [], _∷_}
 use Rattle.vocabulary.specs.Choice.{pick}
-use Rattle.joined.specs.Joined.{Pair, swap, Act, tick, fault, control, reset, receive, send, put, take, offer}
-use Rattle.joined.specs.Joined.{Event, atNear, atFar, nearActs, after, isOver, run}
+use Rattle.joined.specs.Pair.{Pair, swap, Act, tick, fault, control, reset, receive, send, put, take, offer}
+use Rattle.joined.specs.Pair.{Event, atNear, atFar, nearActs, after, isOver, run}
 use Rattle.joined.specs.Joined.{Promise, AfterAnyRun, NoneRefused, TwoEndsJoined}
 use Rattle.joined.proofs.PairLaws.{Live, live-swapped, Kept, kept-swapped, kept-live, kept-promise}
 use Rattle.joined.proofs.QuietLaws.{tick-kept, fault-kept, control-kept, reset-kept}

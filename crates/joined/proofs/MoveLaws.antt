@@ -22,7 +22,7 @@ use Rattle.link.specs.declared.Stage.{Stage}
 use Rattle.link.specs.declared.Link.{Link}
 use Rattle.link.specs.declared.Moved.{Moved}
 use Rattle.link.specs.Table as Table
-use Rattle.joined.specs.Joined.{leaving}
+use Rattle.joined.specs.Pair.{leaving}
 use Rattle.joined.proofs.NextLaws.{same-state, basis, MovesWell, next-well}
 use Rattle.joined.proofs.EndLaws.{stateOf, isLate, Lawful, Good}
 use Rattle.joined.proofs.FlowLaws.{Accounts}

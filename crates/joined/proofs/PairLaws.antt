@@ -11,7 +11,7 @@ use Rattle.store.proofs.OrLaws.{or-left, or-right}
 use Rattle.time.specs.Time.{badTime}
 use Rattle.link.specs.Moves.{isState}
 use Rattle.link.specs.declared.LinkState.the-variants.{ErrorReset}
-use Rattle.joined.specs.Joined.{Node, Pair, swap, Result, booked, relieved, settledBy, isDown, isOver}
+use Rattle.joined.specs.Pair.{Node, Pair, swap, Result, booked, relieved, settledBy, isDown, isOver}
 use Rattle.joined.specs.Joined.{Balanced, Unharmed, Delivers, Promise}
 use Rattle.joined.proofs.EndLaws.{stateOf, Good}
 use Rattle.joined.proofs.FlowLaws.{Flow, flow-delivers, Accounts, flow-sends, flow-hears}

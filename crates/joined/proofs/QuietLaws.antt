@@ -23,7 +23,7 @@ use Rattle.link.specs.declared.FaultKind.{FaultKind}
 use Rattle.link.specs.declared.Controls.{Controls}
 use Rattle.link.specs.declared.Link.{Link}
 use Rattle.link.specs.declared.Answer.{Answer}
-use Rattle.joined.specs.Joined.{Pair, tick, fault, control, reset, quietly, closesFull, settledBy, nearActs}
+use Rattle.joined.specs.Pair.{Pair, tick, fault, control, reset, quietly, closesFull, settledBy, nearActs}
 use Rattle.joined.proofs.TestLaws.{and-false}
 use Rattle.joined.proofs.EndLaws.{stateOf, receive-least, never-refused, room-for-eep}
 use Rattle.joined.proofs.FlowLaws.{Accounts, sendsNone, hearsNone}

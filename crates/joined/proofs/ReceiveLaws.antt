@@ -29,9 +29,10 @@ use Rattle.link.specs.declared.Event.{Event}
 use Rattle.link.specs.declared.Event.the-variants.{Quiet, GotFct, GotNChar, GotTimeCode, CreditError}
 use Rattle.link.specs.declared.Effect.{Effect}
 use Rattle.link.specs.declared.Receipt.{Receipt}
-use Rattle.joined.specs.Joined.{fctsOn, nCharsOn, Pair, receive, closesFull, storesFull, hears, idles, heard}
-use Rattle.joined.specs.Joined.{isCreditError, Accepting}
-use Rattle.joined.specs.Joined.{receives, settledBy, nearActs}
+use Rattle.joined.specs.Pair.{fctsOn, nCharsOn, Pair, receive, closesFull, storesFull, hears, idles, heard}
+use Rattle.joined.specs.Pair.{isCreditError}
+use Rattle.joined.specs.Joined.{Accepting}
+use Rattle.joined.specs.Pair.{receives, settledBy, nearActs}
 use Rattle.joined.proofs.TestLaws.{and-false}
 use Rattle.joined.proofs.WireLaws.{fcts-append, nchars-add, Whole}
 use Rattle.joined.proofs.EndLaws.{stateOf, heldOf, givenOf, inReceive, inTransmit, isLate, Lawful, Good}

@@ -27,7 +27,7 @@ use Rattle.link.specs.declared.Offer.the-variants.{Absent, Code}
 use Rattle.link.specs.declared.Sent.{Sent}
 use Rattle.link.specs.declared.Sent.the-variants.{Silence, Sends}
 use Rattle.link.specs.declared.Dispatch.{Dispatch}
-use Rattle.joined.specs.Joined.{Pair, send, tokensOf, sends, closesFull, settledBy, nearActs}
+use Rattle.joined.specs.Pair.{Pair, send, tokensOf, sends, closesFull, settledBy, nearActs}
 use Rattle.joined.proofs.TestLaws.{and-left, and-right}
 use Rattle.joined.proofs.GrantProof.{credit-rule}
 use Rattle.joined.proofs.EndLaws.{stateOf, heldOf, givenOf, freeOf, inReceive, inTransmit, isLate, Good}

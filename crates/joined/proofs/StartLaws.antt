@@ -17,7 +17,8 @@ use Rattle.link.specs.Recovery.{movesTo, settles}
 use Rattle.link.specs.Calls.{answered, accepted, tickOutcome}
 use Rattle.link.specs.declared.LinkState.{LinkState}
 use Rattle.link.specs.declared.LinkState.the-variants.{ErrorReset, ErrorWait}
-use Rattle.joined.specs.Joined.{Node, leaving, ticked, freshEnd, start, Allowed}
+use Rattle.joined.specs.Pair.{Node, leaving, ticked, freshEnd, start}
+use Rattle.joined.specs.Joined.{Allowed}
 use Rattle.joined.proofs.EndLaws.{isLate, receive-least, transmit-least, Lawful, Good, passes-both}
 use Rattle.joined.proofs.FlowLaws.{unsent, Flow, flow-delivers}
 use Rattle.joined.proofs.PairLaws.{Kept}

@@ -9,7 +9,7 @@ use lib.ListN.{length, length-append}
 use Rattle.vocabulary.specs.Tokens.{badChar}
 use Rattle.vocabulary.specs.declared.Token.{Token}
 use Rattle.vocabulary.specs.declared.Token.the-variants.{Null, Fct, NChar, TimeCode}
-use Rattle.joined.specs.Joined.{fctsOn, nCharsOn}
+use Rattle.joined.specs.Pair.{fctsOn, nCharsOn}
 
 pub fcts-append : (ts us : List Token) → fctsOn (ts ++ us) ≡ fctsOn ts + fctsOn us
 fcts-append [] us = omega arith

@@ -1,2 +1,3 @@
 pub mod Grant
+pub mod Pair
 pub mod Joined
