@@ -2,7 +2,7 @@
 -- Assumes nothing.
 use Prim.Native.Nat.{ℕ, _+_, _*_, _/_, _%_}
 use mathlib.Core.Bool.{Bool, true, false}
-use mathlib.Core.List.{List, [], _∷_}
+use mathlib.Core.List.{[], _∷_}
 use lib.Dec.{eqb, ltb}
 use Rattle.vocabulary.specs.Choice.{pick}
 use Rattle.vocabulary.specs.NChars.{EOP, EEP}

@@ -1,7 +1,7 @@
 -- 01, Characters on the wire, Encoder: "one of NULL, FCT, N-Char, Time-Code and the parity of the last body give the bits,
 -- their count and the new parity."
 -- Assumes nothing.
-use mathlib.Core.Bool.{Bool, false}
+use mathlib.Core.Bool.{false}
 use lib.ListN.{length}
 use Rattle.vocabulary.specs.declared.Token.{Token}
 use Rattle.characters.specs.Bits.{number}

@@ -1,7 +1,7 @@
 -- 01, The ten refusals, as far as they concern characters: what each call tests, in the paper's order.
 -- Assumes nothing.
 use Prim.Native.Nat.{ℕ}
-use mathlib.Core.Bool.{Bool, true, false, not, _||_}
+use mathlib.Core.Bool.{Bool, true, false, _||_}
 use mathlib.Core.List.{List, [], _∷_}
 use lib.Dec.{eqb, ltb}
 use Rattle.vocabulary.specs.Refusals.{STATE, CHAR, STOPPED, Test, test, firstOf}

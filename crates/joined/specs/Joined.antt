@@ -3,19 +3,19 @@
 -- calls or by never leaving ErrorReset.
 -- Assumes nothing.
 use mathlib.Core.Path.{_≡_}
-use mathlib.Core.Bool.{true, false, not}
+use mathlib.Core.Bool.{true, false}
 use mathlib.Core.List.{List, [], _∷_, _++_}
 use Prim.Native.Nat.{ℕ, zero, suc, _+_, _*_, _≤_, _<_}
 use lib.ListN.{length, replicate}
 use Rattle.vocabulary.specs.NChars.{EOP}
 use Rattle.vocabulary.specs.declared.Token.{Token}
-use Rattle.store.specs.Ring.{free, full}
+use Rattle.store.specs.Ring.{free}
 use Rattle.link.specs.Refusals.{badRxSize, badTxSize}
-use Rattle.link.specs.Calls.{both, receiving, sent}
-use Rattle.link.specs.declared.LinkState.the-variants.{ErrorReset, Run}
+use Rattle.link.specs.Calls.{both, receiving}
+use Rattle.link.specs.declared.LinkState.the-variants.{Run}
 use Rattle.link.specs.declared.Controls.{Controls}
-use Rattle.joined.specs.Pair.{fctsOn, nCharsOn, put, receive, Node, Pair, Act, tick, fault, control, reset}
-use Rattle.joined.specs.Pair.{send, take, Event, atNear, atFar, after, sends, isOver, run, start}
+use Rattle.joined.specs.Pair.{fctsOn, nCharsOn, put, receive, Node, Pair, Act, tick, control}
+use Rattle.joined.specs.Pair.{send, take, Event, atNear, atFar, isOver, run, start}
 
 -- "the sender's credit, plus eight for each FCT on its way to it, plus the N-Chars on their way from it"
 abbrev pub underWay : Node → Node → ℕ

@@ -12,7 +12,6 @@ use Rattle.ports.specs.Ports.{inputStore, outputStore}
 use Rattle.ports.specs.declared.Mode.{Mode}
 use Rattle.ports.specs.declared.Mode.the-variants.{Idle, Routed, Spilling}
 use Rattle.ports.specs.declared.Owner.the-variants.{By}
-use Rattle.ports.specs.declared.Output.{Output}
 use Rattle.rounds.specs.Acts.{Acts}
 use Rattle.rounds.specs.Addresses.{waits}
 use Rattle.rounds.specs.Grants.{isFree, waitsFor}

@@ -1,9 +1,9 @@
 -- A property that whatever happens to the ports keeps is kept by a run: one router beside itself.
 -- Assumes nothing.
-use mathlib.Core.Path.{_≡_, refl, ap, subst, _∙_}
+use mathlib.Core.Path.{_≡_, refl, ap}
 use mathlib.Core.Bool.{true, false}
 use mathlib.Core.List.{List}
-use Prim.Native.Nat.{ℕ, _+_}
+use Prim.Native.Nat.{ℕ}
 use native.Mathlib.Omega.{arith}
 use Rattle.vocabulary.specs.NChars.{isEnd}
 use Rattle.table.specs.Headings.{heading}
@@ -15,7 +15,7 @@ use Rattle.rounds.specs.Acts.{Acts, Tally}
 use Rattle.rounds.specs.Addresses.{waits}
 use Rattle.rounds.specs.Moves.{frees, carries}
 use Rattle.rounds.specs.Rounds.{begun, rounds}
-use Rattle.lists.specs.Alike.{Counted, Level}
+use Rattle.lists.specs.Alike.{Level}
 use Rattle.lists.proofs.DeedLaws.{frontIn, grant, Stands, Moves, Taken, Shows, Deeds}
 use Rattle.lists.proofs.WalkLaws.{rounds-level}
 

@@ -3,11 +3,11 @@
 use mathlib.Core.Path.{_≡_, refl, sym, ap, _∙_}
 use mathlib.Core.List.{List, [], _∷_, _++_}
 use Prim.Native.Nat.{ℕ, zero, suc, _+_, _*_, _-_, _/_, _≤_, _<_}
-use native.Mathlib.Nat.{not-suc-le-zero, mul-le-mul-right}
+use native.Mathlib.Nat.{mul-le-mul-right}
 use native.Mathlib.Decide.{decLt}
 use native.Mathlib.Omega.{arith}
 use lib.ListN.{length, take, drop}
-use lib.Seq.{length-take-le, take-append-seam, drop-append-add, drop-append-seam, drop-drop, drop-nil, take-nil, take-take}
+use lib.Seq.{length-take-le, take-append-seam, drop-append-seam, drop-drop, take-take}
 use borrow.Rule.Slice.PartMut.{same-len-mid, take-put, drop-put}
 use Rattle.ports.specs.Places.{sizeIn, placesAt, withPlaces}
 use Rattle.ports.proofs.PlaceLaws.{part-ends, part-size, places-length}

@@ -6,26 +6,23 @@ use mathlib.Core.List.{List, [], _∷_, _++_}
 use Prim.Native.Nat.{ℕ, zero, suc, _+_, _/_, _≤_, _<_}
 use native.Mathlib.Decide.{ℕ-discrete}
 use native.Mathlib.Omega.{arith}
-use lib.Dec.{eqb, ltb, leb}
+use lib.Dec.{ltb, leb}
 use lib.ListN.{length, drop, set}
 use borrow.Author.Tests.{lt-ltb, eq-eqb, ne-eqb, lt-leb, leb-false}
 use Rattle.vocabulary.specs.Choice.{pick}
-use Rattle.vocabulary.specs.NChars.{readAs, isEnd}
-use Rattle.store.specs.Ring.{empty, full, standing, waiting, badStore}
-use Rattle.store.specs.Changes.{freshStore, putStore, putPlaces, frontOf, dropped}
+use Rattle.vocabulary.specs.NChars.{readAs}
+use Rattle.store.specs.Ring.{full, standing, waiting, badStore}
+use Rattle.store.specs.Changes.{putStore, putPlaces, frontOf, dropped}
 use Rattle.store.specs.declared.Store.{Store}
-use Rattle.store.proofs.RingLaws.{waiting-length, fresh-waits, put-appends, drop-drops, front-is-first, put-keeps-length}
-use Rattle.table.specs.Headings.{heading}
-use Rattle.ports.specs.Ports.{modeAt, outputAt, storeAt, withMode, withOutput, withStore, inputStore, outputStore}
+use Rattle.store.proofs.RingLaws.{waiting-length, put-appends, drop-drops, front-is-first, put-keeps-length}
+use Rattle.ports.specs.Ports.{modeAt, outputAt, storeAt, withMode, withOutput, withStore}
 use Rattle.ports.specs.Places.{Machine, machine, sizeIn, placesAt, withPlaces, emptyAt, fullAt, frontAt, withoutFront, withBehind}
 use Rattle.ports.specs.declared.Mode.{Mode}
-use Rattle.ports.specs.declared.Mode.the-variants.{Idle, Waiting, Routed, Spilling}
 use Rattle.ports.specs.declared.Output.{Output}
 use Rattle.ports.specs.declared.Router.{Router}
 use Rattle.ports.proofs.PlaceLaws.{places-length}
-use Rattle.ports.proofs.PortLaws.{ModeOk}
 use Rattle.ports.proofs.StateLaws.{Shape, Sound, mode-changed, output-changed, mode-keeps-outputs, output-keeps-modes}
-use Rattle.ports.proofs.StateLaws.{store-keeps-modes, drop-sound, append-sound}
+use Rattle.ports.proofs.StateLaws.{store-keeps-modes}
 use Rattle.rounds.specs.Model.{Model, model, at, isNil, first}
 use Rattle.rounds.specs.Exact.{exact}
 use Rattle.rounds.proofs.FallLaws.{mode-keeps-stores, output-keeps-stores, store-new, store-others}

@@ -1,9 +1,9 @@
 -- Each thing that can happen in a round happens to rings and lists alike, so a whole run does.
 -- Assumes nothing.
-use mathlib.Core.Path.{_≡_, refl, sym, ap, subst, _∙_}
+use mathlib.Core.Path.{_≡_, refl, ap, subst, _∙_}
 use mathlib.Core.Bool.{Bool, true, false}
 use mathlib.Core.List.{List}
-use Prim.Native.Nat.{ℕ, _+_, _/_, _<_}
+use Prim.Native.Nat.{ℕ, _/_, _<_}
 use native.Mathlib.Omega.{arith}
 use borrow.Author.Tests.{le-ltb}
 use lib.Dec.{ltb}
@@ -16,7 +16,7 @@ use Rattle.table.specs.Headings.{heading}
 use Rattle.table.specs.declared.Direction.{Direction}
 use Rattle.table.specs.declared.Heading.the-variants.{Ports}
 use Rattle.ports.specs.Ports.{outputAt, storeAt, inputStore, outputStore}
-use Rattle.ports.specs.Places.{Machine, placesAt, emptyAt, fullAt, frontAt, withBehind}
+use Rattle.ports.specs.Places.{Machine, placesAt, emptyAt, frontAt, withBehind}
 use Rattle.ports.specs.declared.Mode.{Mode}
 use Rattle.ports.specs.declared.Mode.the-variants.{Idle, Routed, Spilling}
 use Rattle.ports.specs.declared.Owner.the-variants.{Free, By}
@@ -30,8 +30,7 @@ use Rattle.rounds.specs.Exact.{exact}
 use Rattle.rounds.proofs.KeepLaws.{wish}
 use Rattle.rounds.proofs.SoundLaws.{sound-kept, waits-below}
 use Rattle.rounds.proofs.FallLaws.{mode-keeps-stores, append-keeps-empty}
-use Rattle.lists.specs.Tied.{Tied}
-use Rattle.lists.proofs.DeedLaws.{frontIn, grant, Stands, Moves, Taken, Shows, Deeds}
+use Rattle.lists.proofs.DeedLaws.{frontIn, Stands, Moves, Shows, Deeds}
 use Rattle.lists.proofs.RingProof.{Lists, shows-empty, shows-full, shows-front}
 use Rattle.lists.proofs.RingProof.{mode-tied, output-tied, drop-tied, append-tied}
 

@@ -8,7 +8,7 @@ use native.Mathlib.Omega.{arith}
 use borrow.Author.Tests.{le-ltb}
 use lib.ListN.{length}
 use Rattle.vocabulary.specs.Choice.{pick}
-use Rattle.ports.specs.Places.{Machine, sizeIn}
+use Rattle.ports.specs.Places.{Machine}
 use Rattle.ports.proofs.StateLaws.{Sound}
 use Rattle.rounds.specs.Acts.{Tally}
 use Rattle.rounds.specs.Rounds.{begun, round, rounds}
@@ -19,7 +19,7 @@ use Rattle.router.specs.Calls.{Run, told, runs}
 use Rattle.router.specs.Reached.{Reached, run}
 use Rattle.router.proofs.ReachedProof.{reached-keeps, never-spoiled, mark-is-exact}
 use Rattle.lists.specs.Alike.{Counted, Level}
-use Rattle.lists.specs.Tied.{listsOf, Tied, SameRun, RingsAreLists}
+use Rattle.lists.specs.Tied.{listsOf, Tied, RingsAreLists}
 use Rattle.lists.specs.OneByOne.{added, OneByOne, RunsOneByOne}
 use Rattle.lists.proofs.WalkLaws.{rounds-level}
 use Rattle.lists.proofs.RingProof.{Lists}

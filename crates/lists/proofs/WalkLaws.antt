@@ -11,7 +11,7 @@ use Rattle.table.specs.Headings.{heading}
 use Rattle.table.specs.declared.Heading.{Heading}
 use Rattle.table.specs.declared.Heading.the-variants.{End, Nowhere, Ports}
 use Rattle.ports.specs.Each.{each}
-use Rattle.ports.specs.Ports.{inputStore, outputStore}
+use Rattle.ports.specs.Ports.{outputStore}
 use Rattle.ports.specs.declared.Mode.{Mode}
 use Rattle.ports.specs.declared.Mode.the-variants.{Idle, Waiting, Routed, Spilling}
 use Rattle.ports.specs.declared.Output.{Output}
@@ -23,7 +23,7 @@ use Rattle.rounds.specs.Moves.{moves, movesOne, spills, spillsOne, ifSending, s
 use Rattle.rounds.specs.Rounds.{round, rounds}
 use Rattle.rounds.proofs.KeepLaws.{first-fits}
 use Rattle.lists.specs.Alike.{Counted, Level}
-use Rattle.lists.proofs.DeedLaws.{frontIn, Stands, Moves, Taken, Shows, Deeds}
+use Rattle.lists.proofs.DeedLaws.{frontIn, Stands, Shows, Deeds}
 
 -- within a round the marks are the same too
 pub record Alike {X Y : Type 0} (R : X → Y → Type 0) (c : Counted) (t : Tally X) (u : Tally Y) : Type 0 where

@@ -6,7 +6,7 @@ use mathlib.Core.List.{List, [], _∷_, _++_, append-assoc, List·Memᴰ·head}
 use Prim.Native.Nat.{ℕ, _/_, _<_}
 use native.Mathlib.Decide.{ℕ-discrete}
 use native.Mathlib.Omega.{arith}
-use lib.Dec.{eqb, ltb}
+use lib.Dec.{eqb}
 use lib.ListN.{drop}
 use borrow.Author.Tests.{eq-eqb, ne-eqb, eqb-true, ltb-false}
 use Rattle.vocabulary.specs.Choice.{pick}
@@ -18,13 +18,11 @@ use Rattle.store.specs.Changes.{dropped}
 use Rattle.ports.specs.Ports.{inputStore, outputStore, storeAt}
 use Rattle.ports.specs.Places.{Machine, sizeIn, placesAt, emptyAt, fullAt, frontAt, withBehind, withoutFront}
 use Rattle.ports.specs.declared.Mode.{Mode}
-use Rattle.ports.specs.declared.Output.{Output}
 use Rattle.ports.proofs.StateLaws.{drop-sound, append-sound}
-use Rattle.rounds.specs.Acts.{Tally}
 use Rattle.rounds.specs.Rounds.{begun, rounds}
 use Rattle.rounds.specs.Exact.{exact}
 use Rattle.rounds.specs.Model.{Model, model, at}
-use Rattle.router.specs.Refusals.{noPort, putTests, takeTests, putRefusal, takeRefusal, runRefusal}
+use Rattle.router.specs.Refusals.{noPort, putRefusal, takeRefusal, runRefusal}
 use Rattle.router.specs.Calls.{puts, takes, tookOne, told, runs}
 use Rattle.router.proofs.RefusalLaws.{lent-accepts}
 use Rattle.lists.proofs.RingProof.{Lists, front-first, drop-tied, append-tied}
@@ -33,7 +31,7 @@ use Rattle.packets.specs.Journal.{Part, putTo, sentTo, byOwner}
 use Rattle.packets.specs.Since.{Clear, Stage, since, before, Since}
 use Rattle.packets.proofs.JournalLaws.{behind-all}
 use Rattle.packets.proofs.ProgressLaws.{put-progress, later-progress, later-journey}
-use Rattle.packets.proofs.RoundProof.{Told, run-told}
+use Rattle.packets.proofs.RoundProof.{run-told}
 
 -- what an accepted call passed
 

@@ -1,13 +1,10 @@
 -- Whatever happens to the ports in a round, there is a journal afterwards.
 -- Assumes nothing.
-use mathlib.Core.Path.{_≡_, refl, sym, ap, ap₂, subst, _∙_}
-use mathlib.Core.Bool.{Bool, true, false, _&&_, false≢true}
-use mathlib.Core.List.{List, [], _∷_, _++_, append-assoc, append-nil, List·Memᴰ}
-use Prim.Native.Nat.{ℕ, _+_, _/_, _<_}
-use native.Mathlib.Decide.{ℕ-discrete}
+use mathlib.Core.Path.{_≡_, refl, sym, ap, subst, _∙_}
+use mathlib.Core.Bool.{Bool, true, false}
+use mathlib.Core.List.{List, [], _∷_, _++_, append-assoc, List·Memᴰ}
+use Prim.Native.Nat.{ℕ, _+_, _<_}
 use native.Mathlib.Omega.{arith}
-use lib.ListN.{drop}
-use lib.Dec.{eqb}
 use borrow.Author.Tests.{eq-eqb, ne-eqb}
 use Rattle.vocabulary.specs.Choice.{pick}
 use Rattle.vocabulary.specs.NChars.{isEnd}
@@ -16,26 +13,21 @@ use Rattle.table.specs.Headings.{heading}
 use Rattle.table.specs.declared.Direction.{Direction}
 use Rattle.table.specs.declared.Heading.{Heading}
 use Rattle.table.specs.declared.Heading.the-variants.{End, Nowhere, Ports}
-use Rattle.ports.specs.Ports.{wants, inputStore, outputStore}
+use Rattle.ports.specs.Ports.{inputStore, outputStore}
 use Rattle.ports.specs.declared.Mode.{Mode}
-use Rattle.ports.specs.declared.Mode.the-variants.{Idle, Waiting, Routed, Spilling}
-use Rattle.ports.specs.declared.Owner.{Owner}
-use Rattle.ports.specs.declared.Owner.the-variants.{Free, By}
+use Rattle.ports.specs.declared.Mode.the-variants.{Idle, Routed, Spilling}
+use Rattle.ports.specs.declared.Owner.the-variants.{By}
 use Rattle.ports.specs.declared.Output.{Output}
 use Rattle.rounds.specs.Addresses.{waits}
-use Rattle.rounds.specs.Grants.{isFree, same, waitsFor}
-use Rattle.rounds.specs.Moves.{frees, carries}
-use Rattle.rounds.specs.Model.{Model, model, at}
+use Rattle.rounds.specs.Model.{Model, model}
 use Rattle.rounds.proofs.KeepLaws.{wish}
-use Rattle.rounds.proofs.SoundLaws.{free-owner}
-use Rattle.lists.proofs.DeedLaws.{grant}
 use Rattle.packets.specs.Ledger.{Ledger}
-use Rattle.packets.specs.Journal.{Fate, empty, spilt, sent, Packet, Part, sentTo, Read, Headed, Bound, Asks, InProgress, byOwner}
-use Rattle.packets.specs.Since.{Clear, Apart, Stage, since, before, Since}
-use Rattle.packets.proofs.JournalLaws.{sent-here, sent-elsewhere, unended-more, nothing-unended, cut-move}
+use Rattle.packets.specs.Journal.{empty, spilt, Packet, Part, sentTo, Read, Headed, InProgress}
+use Rattle.packets.specs.Since.{Stage, since, before, Since}
+use Rattle.packets.proofs.JournalLaws.{sent-elsewhere, unended-more, nothing-unended, cut-move}
 use Rattle.packets.proofs.HeadLaws.{saysEnd, end-read}
 use Rattle.packets.proofs.ProgressLaws.{same-read, whole-read}
-use Rattle.packets.proofs.InputLaws.{nothing, nothing-yet, past, part, tail, Next, Entered, still-entered}
+use Rattle.packets.proofs.InputLaws.{nothing, past, tail, Next, Entered, still-entered}
 use Rattle.packets.proofs.InputLaws.{ending, finishes, moved, goes-on, old-goes-on, old-finishes, deletes, turns}
 
 -- an owner is routed to its output, and a routed input owns it

@@ -2,7 +2,7 @@
 -- Assumes nothing.
 use mathlib.Core.Path.{_≡_, refl, sym, ap, subst, _∙_}
 use mathlib.Core.Bool.{Bool, true, false, false≢true}
-use mathlib.Core.List.{List, [], _∷_, _++_}
+use mathlib.Core.List.{List, [], _∷_}
 use Prim.Native.Nat.{ℕ, _<_}
 use native.Mathlib.Omega.{arith}
 use lib.Dec.{eqb}
@@ -10,22 +10,19 @@ use borrow.Author.Tests.{eqb-true, ltb-false, le-leb}
 use Rattle.vocabulary.specs.Choice.{pick}
 use Rattle.vocabulary.specs.Refusals.{STATE, PORT, Test, test}
 use Rattle.vocabulary.proofs.RefusalLaws.{passed, passed-later}
-use Rattle.store.specs.Ring.{empty, waiting}
+use Rattle.store.specs.Ring.{empty}
 use Rattle.store.proofs.RingLaws.{empty-waits}
 use Rattle.ports.specs.Ports.{storeAt, inputStore, outputStore}
 use Rattle.ports.specs.Places.{Machine, placesAt}
 use Rattle.ports.specs.Refusals.{badPorts}
-use Rattle.ports.specs.declared.Wanted.{Wanted}
 use Rattle.ports.specs.declared.Router.{Router}
-use Rattle.ports.specs.declared.Mode.the-variants.{Waiting, Routed}
-use Rattle.ports.specs.declared.Owner.the-variants.{By}
+use Rattle.ports.specs.declared.Mode.the-variants.{Routed}
 use Rattle.rounds.specs.Model.{Model}
 use Rattle.router.specs.Refusals.{noPort, heldRefusal}
 use Rattle.router.specs.Held.{awaits, stillHeld, heldThrough, heldRefused, NothingHeld, NothingUnread}
-use Rattle.router.specs.Reached.{Reached}
 use Rattle.router.proofs.HeldProof.{held-says}
 use Rattle.lists.specs.Tied.{heldAt, listsOf}
-use Rattle.packets.specs.Ledger.{Call, Ledger, opened, after}
+use Rattle.packets.specs.Ledger.{Ledger, opened, after}
 use Rattle.packets.specs.Journal.{putTo, InProgress}
 use Rattle.packets.specs.Since.{Clear, Apart, Stage, since, before, Since}
 use Rattle.packets.specs.NothingHeld.{PutSince, NothingHeldMeans, NothingHeldIsClear}

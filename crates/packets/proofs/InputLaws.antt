@@ -1,13 +1,12 @@
 -- What can happen to the packet that an input is in, with every other input as it was.
 -- Assumes nothing.
-use mathlib.Core.Path.{_≡_, refl, sym, ap, subst, _∙_}
-use mathlib.Core.Bool.{Bool, true, false}
-use mathlib.Core.List.{List, [], _∷_, _++_, append-assoc, List·Memᴰ}
+use mathlib.Core.Path.{_≡_, refl, sym, ap, _∙_}
+use mathlib.Core.Bool.{true}
+use mathlib.Core.List.{List, [], _∷_, _++_, List·Memᴰ}
 use Prim.Native.Nat.{ℕ, _<_}
 use native.Mathlib.Decide.{ℕ-discrete}
 use borrow.Author.Tests.{eq-eqb, ne-eqb}
 use Rattle.vocabulary.specs.NChars.{isEnd}
-use Rattle.store.specs.Packets.{holdsEnd}
 use Rattle.ports.specs.Ports.{inputStore, outputStore}
 use Rattle.ports.specs.declared.Mode.{Mode}
 use Rattle.ports.specs.declared.Mode.the-variants.{Idle}
@@ -18,7 +17,7 @@ use Rattle.lists.proofs.RingProof.{at-same}
 use Rattle.packets.specs.Ledger.{Ledger}
 use Rattle.packets.specs.Journal.{Fate, Packet, Part, putTo, sentTo, Went, Journey, InProgress, byOwner}
 use Rattle.packets.specs.Since.{Clear, Apart, Stage, since, before, Since}
-use Rattle.packets.proofs.JournalLaws.{put-mine, put-others, one-more, unended-more, nothing-unended}
+use Rattle.packets.proofs.JournalLaws.{put-mine, put-others, one-more, nothing-unended}
 use Rattle.packets.proofs.JournalLaws.{cut-move, cut-close, cut-tail}
 
 abbrev pub nothing : Part

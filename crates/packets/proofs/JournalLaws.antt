@@ -1,7 +1,7 @@
 -- A packet that finishes is the last of its input's and of its output's, and nobody else's.
 -- Assumes nothing.
 use mathlib.Core.Path.{_≡_, refl, sym, ap, subst, _∙_}
-use mathlib.Core.Bool.{Bool, true, false, _||_}
+use mathlib.Core.Bool.{Bool, true, false}
 use mathlib.Core.List.{List, [], _∷_, _++_, append-assoc, append-nil, List·Memᴰ, List·Memᴰ·head, List·Memᴰ·tail}
 use mathlib.Core.List.{List·Memᴰ·not-nil, List·Memᴰ·cases-cons}
 use mathlib.Core.Logic.{⊎-elim}
@@ -12,7 +12,7 @@ use Rattle.vocabulary.specs.Choice.{pick}
 use Rattle.vocabulary.specs.NChars.{isEnd}
 use Rattle.store.specs.Packets.{holdsEnd}
 use Rattle.store.proofs.OrLaws.{or-left, or-right}
-use Rattle.packets.specs.Journal.{Packet, whole, body, goesTo, putTo, sentTo, Journey}
+use Rattle.packets.specs.Journal.{Packet, whole, body, goesTo, putTo, sentTo}
 
 -- one more on one list, for any way to say which packets count and what of them
 

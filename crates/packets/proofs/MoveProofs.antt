@@ -1,13 +1,11 @@
 -- A grant, a move of one N-Char and the move of an end: there is a journal afterwards, and the output holds what it had and that one.
 -- Assumes nothing.
-use mathlib.Core.Path.{_≡_, refl, sym, ap, ap₂, subst, _∙_}
+use mathlib.Core.Path.{_≡_, refl, sym, ap, subst, _∙_}
 use mathlib.Core.Bool.{Bool, true, false, _&&_, false≢true}
 use mathlib.Core.List.{List, [], _∷_, _++_, append-assoc, append-nil, List·Memᴰ}
 use Prim.Native.Nat.{ℕ, _+_, _<_}
 use native.Mathlib.Decide.{ℕ-discrete}
 use native.Mathlib.Omega.{arith}
-use lib.ListN.{drop}
-use lib.Dec.{eqb}
 use borrow.Author.Tests.{eq-eqb, ne-eqb}
 use Rattle.vocabulary.specs.NChars.{isEnd}
 use Rattle.ports.specs.Ports.{wants, inputStore, outputStore}
@@ -16,19 +14,18 @@ use Rattle.ports.specs.declared.Mode.{Mode}
 use Rattle.ports.specs.declared.Mode.the-variants.{Idle, Waiting, Routed, Spilling}
 use Rattle.ports.specs.declared.Owner.{Owner}
 use Rattle.ports.specs.declared.Owner.the-variants.{Free, By}
-use Rattle.ports.specs.declared.Output.{Output}
 use Rattle.rounds.specs.Grants.{same, waitsFor}
 use Rattle.rounds.specs.Moves.{frees, carries}
 use Rattle.rounds.specs.Model.{Model, model, at}
 use Rattle.lists.proofs.DeedLaws.{grant}
 use Rattle.packets.specs.Ledger.{Ledger}
-use Rattle.packets.specs.Journal.{Fate, sent, Packet, Part, sentTo, Bound, InProgress, byOwner}
-use Rattle.packets.specs.Since.{Clear, Apart, Stage, since, before, Since}
+use Rattle.packets.specs.Journal.{sent, Part, sentTo, byOwner}
+use Rattle.packets.specs.Since.{Clear, Stage, since, before, Since}
 use Rattle.packets.proofs.JournalLaws.{sent-here, sent-elsewhere, cut-move}
 use Rattle.packets.proofs.ProgressLaws.{same-bound, whole-bound}
-use Rattle.packets.proofs.InputLaws.{nothing, owner-same, mine-moved, past, part, tail, Next, Entered}
+use Rattle.packets.proofs.InputLaws.{nothing, owner-same, mine-moved, past, tail, Next, Entered}
 use Rattle.packets.proofs.InputLaws.{ending, finishes, moved, goes-on, old-goes-on, old-finishes, turns}
-use Rattle.packets.proofs.DeedProofs.{Owners, stage-in, in-store, more-unended}
+use Rattle.packets.proofs.DeedProofs.{Owners, in-store, more-unended}
 
 -- an input that waits for this output wants it
 wants-it : (o : ℕ) (high : Bool) (w : Wanted) → waitsFor o high (Waiting w) ≡ true → wants (w .ports) o ≡ true

@@ -1,19 +1,14 @@
 -- The packet that an input is in, as N-Chars come behind it and leave in front.
 -- Assumes nothing.
-use mathlib.Core.Path.{_≡_, refl, sym, ap, subst, _∙_}
-use mathlib.Core.Bool.{Bool, true, false}
-use mathlib.Core.List.{List, [], _∷_, _++_, append-assoc, List·Memᴰ, List·Memᴰ·tail}
+use mathlib.Core.Path.{_≡_, ap, subst, _∙_}
+use mathlib.Core.List.{List, [], _∷_, _++_, append-assoc, List·Memᴰ·tail}
 use Prim.Native.Nat.{ℕ}
 use lib.ListN.{drop}
-use Rattle.vocabulary.specs.NChars.{isEnd}
-use Rattle.store.specs.Packets.{holdsEnd}
 use Rattle.table.specs.declared.Heading.{Heading}
-use Rattle.table.specs.declared.Heading.the-variants.{Nowhere, Ports}
 use Rattle.ports.specs.declared.Mode.{Mode}
 use Rattle.ports.specs.declared.Mode.the-variants.{Idle, Waiting, Routed, Spilling}
 use Rattle.rounds.specs.Model.{first}
-use Rattle.packets.specs.Journal.{Fate, empty, spilt, sent, Packet, Part, Read, Headed, Bound, Asks, Went, Journey, InMode, InProgress}
-use Rattle.packets.proofs.JournalLaws.{unended-more}
+use Rattle.packets.specs.Journal.{Fate, empty, spilt, sent, Packet, Part, Read, Headed, Bound, Went, Journey, InMode, InProgress}
 
 -- what was read stays read, while the text is the same or grows behind
 

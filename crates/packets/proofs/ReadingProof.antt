@@ -8,7 +8,7 @@ use Rattle.vocabulary.specs.Choice.{pick}
 use Rattle.vocabulary.specs.NChars.{isEnd}
 use Rattle.store.specs.Packets.{holdsEnd}
 use Rattle.store.proofs.OrLaws.{or-left, or-right}
-use Rattle.ports.specs.Ports.{freshRouter, outputStore}
+use Rattle.ports.specs.Ports.{freshRouter}
 use Rattle.ports.specs.Places.{machine}
 use Rattle.ports.specs.declared.Owner.{Owner}
 use Rattle.ports.specs.declared.Owner.the-variants.{Free, By}
@@ -16,7 +16,6 @@ use Rattle.router.specs.Reached.{fresh}
 use Rattle.lists.specs.Tied.{listsOf}
 use Rattle.packets.specs.Ledger.{opened, after}
 use Rattle.packets.specs.Journal.{Packet, Part, body, goesTo, sentTo, Journey, byOwner}
-use Rattle.packets.specs.Integrity.{Whole}
 use Rattle.packets.specs.Reading.{Reading, reading, bodiesTo, PacketsReadWhole}
 use Rattle.packets.proofs.JournalLaws.{nothing-unended}
 use Rattle.packets.proofs.SinceProof.{packet-integrity, reached-owners}

@@ -1,27 +1,25 @@
 -- A run keeps a journal: each thing that can happen in a round does.
 -- Assumes nothing.
 use mathlib.Core.Path.{_≡_, refl, sym, ap, subst, _∙_}
-use mathlib.Core.Bool.{true, false}
+use mathlib.Core.Bool.{false}
 use mathlib.Core.List.{List, _∷_, List·Memᴰ}
 use Prim.Native.Nat.{ℕ, _/_, _<_}
 use native.Mathlib.Omega.{arith}
 use Rattle.store.specs.Ring.{waiting}
 use Rattle.store.specs.Changes.{dropped}
-use Rattle.ports.specs.Ports.{modeAt, outputAt, storeAt, inputStore, outputStore}
+use Rattle.ports.specs.Ports.{modeAt, outputAt, storeAt, inputStore}
 use Rattle.ports.specs.Places.{Machine, sizeIn, placesAt, emptyAt, frontAt}
 use Rattle.ports.specs.declared.Mode.{Mode}
 use Rattle.ports.specs.declared.Mode.the-variants.{Routed}
-use Rattle.ports.specs.declared.Owner.{Owner}
 use Rattle.ports.specs.declared.Owner.the-variants.{By}
 use Rattle.ports.specs.declared.Output.{Output}
 use Rattle.ports.proofs.PortLaws.{ModeOk, OwnerOk}
-use Rattle.rounds.specs.Grants.{isFree, waitsFor}
+use Rattle.rounds.specs.Grants.{waitsFor}
 use Rattle.rounds.specs.Rounds.{begun, rounds}
 use Rattle.rounds.specs.Model.{Model, model}
 use Rattle.rounds.specs.Exact.{exact}
 use Rattle.rounds.proofs.SoundLaws.{free-owner, waits-below}
-use Rattle.lists.specs.Alike.{Counted, Level}
-use Rattle.lists.proofs.DeedLaws.{Stands, Moves, Taken, Shows, Deeds}
+use Rattle.lists.proofs.DeedLaws.{Shows, Deeds}
 use Rattle.lists.proofs.WalkLaws.{rounds-level}
 use Rattle.lists.proofs.RingProof.{Lists, front-first}
 use Rattle.lists.proofs.RunProof.{shows, deeds, routed-below}

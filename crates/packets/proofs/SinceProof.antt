@@ -1,20 +1,17 @@
 -- From any moment on, over any calls, there is a journal; and from fresh it has every packet whole.
 -- Assumes nothing.
-use mathlib.Core.Path.{_≡_, refl, sym, ap, subst, _∙_}
-use mathlib.Core.Bool.{true, false}
-use mathlib.Core.List.{List, [], _∷_, _++_, append-nil, List·Memᴰ·not-nil}
+use mathlib.Core.Path.{_≡_, refl, sym, ap, _∙_}
+use mathlib.Core.Bool.{false}
+use mathlib.Core.List.{List, [], _∷_, append-nil, List·Memᴰ·not-nil}
 use Prim.Native.Nat.{ℕ, _<_}
 use native.Mathlib.Omega.{arith}
 use lib.ListN.{length}
 use Rattle.store.specs.Ring.{waiting}
 use Rattle.store.proofs.RingLaws.{fresh-waits}
-use Rattle.ports.specs.Ports.{freshRouter, modeAt, outputAt, inputStore, outputStore}
+use Rattle.ports.specs.Ports.{freshRouter, inputStore, outputStore}
 use Rattle.ports.specs.Places.{Machine, machine, placesAt, badArea}
-use Rattle.ports.specs.declared.Wanted.{Wanted}
 use Rattle.ports.specs.declared.Mode.{Mode}
 use Rattle.ports.specs.declared.Mode.the-variants.{Idle, Waiting, Routed, Spilling}
-use Rattle.ports.specs.declared.Owner.{Owner}
-use Rattle.ports.specs.declared.Owner.the-variants.{Free, By}
 use Rattle.ports.specs.declared.Output.{Output}
 use Rattle.rounds.specs.Model.{Model}
 use Rattle.router.specs.Reached.{Reached, fresh}
@@ -23,9 +20,9 @@ use Rattle.lists.specs.Tied.{heldAt, listsOf, Tied}
 use Rattle.lists.proofs.RingProof.{Lists}
 use Rattle.lists.proofs.TiedProof.{reached-sound}
 use Rattle.packets.specs.Ledger.{Call, Ledger, opened, books, after}
-use Rattle.packets.specs.Journal.{Part, putTo, sentTo, InProgress, byOwner}
+use Rattle.packets.specs.Journal.{putTo, sentTo, InProgress}
 use Rattle.packets.specs.Integrity.{Whole, PacketIntegrity}
-use Rattle.packets.specs.Since.{Clear, Apart, Stage, since, before, Since, PacketsSince}
+use Rattle.packets.specs.Since.{Clear, Stage, since, before, Since, PacketsSince}
 use Rattle.packets.proofs.InputLaws.{nothing, nothing-yet}
 use Rattle.packets.proofs.DeedProofs.{Owners}
 use Rattle.packets.proofs.RoundProof.{lists-owners}

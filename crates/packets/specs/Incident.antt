@@ -3,7 +3,6 @@
 -- Assumes nothing.
 use mathlib.Core.Path.{_≡_}
 use mathlib.Core.List.{List, [], _∷_}
-use Prim.Native.Nat.{ℕ}
 use Rattle.vocabulary.specs.NChars.{EOP, EEP}
 use Rattle.table.specs.Rows.{freshTable}
 use Rattle.router.specs.Cases.{smallest}

@@ -1,11 +1,11 @@
 -- No packet inside another: what was put to each input, and what entered each output, are the packets of one journal.
 -- Assumes nothing.
 use mathlib.Core.Path.{_≡_}
-use mathlib.Core.Bool.{Bool, true, false}
-use mathlib.Core.List.{List, [], _∷_, _++_, List·Memᴰ}
+use mathlib.Core.Bool.{false}
+use mathlib.Core.List.{List, _++_, List·Memᴰ}
 use Prim.Native.Nat.{ℕ, _<_}
 use Rattle.ports.specs.Ports.{freshRouter, inputStore, outputStore}
-use Rattle.ports.specs.Places.{Machine, machine, badArea}
+use Rattle.ports.specs.Places.{machine, badArea}
 use Rattle.rounds.specs.Model.{Model}
 use Rattle.lists.specs.Tied.{listsOf}
 use Rattle.packets.specs.Ledger.{Call, Ledger, opened, after}

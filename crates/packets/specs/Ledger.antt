@@ -2,7 +2,6 @@
 -- by calls that were not refused, and the tables that runs were lent. A row is written between two calls, by lending the next run
 -- another table.
 -- Assumes nothing.
-use mathlib.Core.Path.{_≡_}
 use mathlib.Core.List.{List, [], _∷_, _++_}
 use Prim.Native.Nat.{ℕ}
 use lib.Dec.{eqb}

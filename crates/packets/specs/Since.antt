@@ -2,8 +2,8 @@
 -- read since, and behind what waited at that moment.
 -- Assumes nothing.
 use mathlib.Core.Path.{_≡_}
-use mathlib.Core.Bool.{true, false}
-use mathlib.Core.List.{List, [], _∷_, _++_, List·Memᴰ}
+use mathlib.Core.Bool.{false}
+use mathlib.Core.List.{List, [], _++_, List·Memᴰ}
 use Prim.Native.Nat.{ℕ, _<_}
 use Rattle.ports.specs.Ports.{wants, inputStore, outputStore}
 use Rattle.ports.specs.Places.{Machine}

@@ -1,7 +1,7 @@
 -- `characters::bits::odd_last` meets its contract.
 -- Assumes nothing.
 use borrow.Author.Needs.{needs}
-use mathlib.Core.Path.{refl, sym, _∙_}
+use mathlib.Core.Path.{sym, _∙_}
 use Rattle.characters.proofs.bits.odd_last.Statement.{statement}
 use Rattle.characters.proofs.bits.odd_last.Tie as tie
 

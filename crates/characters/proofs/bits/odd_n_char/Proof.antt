@@ -3,7 +3,7 @@
 use lib.Dec.{eqb}
 use borrow.Author.Needs.{needs}
 use Rattle.characters.proofs.WireLaws.{end-odd}
-use mathlib.Core.Path.{refl, sym, _∙_}
+use mathlib.Core.Path.{sym, _∙_}
 use borrow.Author.Tests.{le-ltb, lt-ltb}
 use Rattle.characters.proofs.bits.odd_n_char.Statement.{statement}
 use Rattle.characters.proofs.bits.odd_n_char.Tie as tie

@@ -1,7 +1,7 @@
 -- `characters::decoder::accept_tick` meets its contract.
 -- Assumes nothing.
 use borrow.Author.Needs.{needs}
-use mathlib.Core.Path.{refl, sym, _∙_}
+use mathlib.Core.Path.{sym, _∙_}
 use Rattle.characters.proofs.decoder.accept_tick.Statement.{statement}
 use Rattle.characters.proofs.decoder.accept_tick.Tie as tie
 

@@ -1,7 +1,6 @@
 -- `characters::decoder::accepted` meets its contract.
 -- Assumes nothing.
-use borrow.Author.Needs.{needs}
-use mathlib.Core.Path.{refl, sym, _∙_}
+use mathlib.Core.Path.{refl}
 use Rattle.characters.specs.Calls.{decodeAccepted}
 use Rattle.characters.proofs.decoder.accepted.Statement.{statement}
 use Rattle.characters.proofs.decoder.accepted.Tie as tie

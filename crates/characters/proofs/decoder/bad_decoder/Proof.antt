@@ -1,7 +1,7 @@
 -- `characters::decoder::bad_decoder` meets its contract.
 -- Assumes nothing.
 use borrow.Author.Needs.{needs}
-use mathlib.Core.Path.{refl, sym, _∙_}
+use mathlib.Core.Path.{sym, _∙_}
 use Rattle.characters.proofs.decoder.bad_decoder.Statement.{statement}
 use Rattle.characters.proofs.decoder.bad_decoder.Tie as tie
 

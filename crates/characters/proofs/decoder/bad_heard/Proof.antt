@@ -1,7 +1,7 @@
 -- `characters::decoder::bad_heard` meets its contract.
 -- Assumes nothing.
 use borrow.Author.Needs.{needs}
-use mathlib.Core.Path.{refl, sym, _∙_}
+use mathlib.Core.Path.{sym, _∙_}
 use borrow.Author.Tests.{le-ltb, lt-ltb}
 use Rattle.characters.proofs.decoder.bad_heard.Statement.{statement}
 use Rattle.characters.proofs.decoder.bad_heard.Tie as tie

@@ -1,7 +1,6 @@
 -- `characters::decoder::bad_phase` meets its contract.
 -- Assumes nothing.
 use borrow.Author.Needs.{needs}
-use mathlib.Core.Path.{refl, sym, _∙_}
 use Rattle.characters.proofs.decoder.bad_phase.Statement.{statement}
 use Rattle.characters.proofs.decoder.bad_phase.Tie as tie
 

@@ -1,7 +1,7 @@
 -- `characters::decoder::bit` meets its contract.
 -- Assumes nothing.
 use borrow.Author.Needs.{needs}
-use mathlib.Core.Path.{refl, sym, _∙_}
+use mathlib.Core.Path.{sym, _∙_}
 use borrow.Author.Tests.{eq-eqb, ne-eqb}
 use Rattle.characters.specs.Calls.{bitAnswer}
 use Rattle.characters.proofs.decoder.bit.Statement.{statement}

@@ -1,7 +1,5 @@
 -- `characters::decoder::body` meets its contract.
 -- Assumes nothing.
-use borrow.Author.Needs.{needs}
-use mathlib.Core.Path.{refl, sym, _∙_}
 use Rattle.characters.proofs.decoder.body.Statement.{statement}
 use Rattle.characters.proofs.decoder.body.Tie as tie
 

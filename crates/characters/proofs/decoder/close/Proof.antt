@@ -1,7 +1,6 @@
 -- `characters::decoder::close` meets its contract.
 -- Assumes nothing.
 use borrow.Author.Needs.{needs}
-use mathlib.Core.Path.{refl, sym, _∙_}
 use Rattle.characters.proofs.decoder.close.Statement.{statement}
 use Rattle.characters.proofs.decoder.close.Tie as tie
 

@@ -1,7 +1,5 @@
 -- `characters::decoder::data_token` meets its contract.
 -- Assumes nothing.
-use borrow.Author.Needs.{needs}
-use mathlib.Core.Path.{refl, sym, _∙_}
 use Rattle.characters.proofs.decoder.data_token.Statement.{statement}
 use Rattle.characters.proofs.decoder.data_token.Tie as tie
 

@@ -1,7 +1,7 @@
 -- `characters::decoder::escaped_control` meets its contract.
 -- Assumes nothing.
 use borrow.Author.Needs.{needs}
-use mathlib.Core.Path.{refl, sym, _∙_}
+use mathlib.Core.Path.{sym, _∙_}
 use Rattle.characters.proofs.decoder.escaped_control.Statement.{statement}
 use Rattle.characters.proofs.decoder.escaped_control.Tie as tie
 

@@ -1,7 +1,7 @@
 -- `characters::decoder::flag_bit` meets its contract.
 -- Assumes nothing.
 use borrow.Author.Needs.{needs}
-use mathlib.Core.Path.{refl, sym, _∙_}
+use mathlib.Core.Path.{sym, _∙_}
 use Rattle.characters.specs.Decoder.{flagged}
 use Rattle.characters.proofs.decoder.flag_bit.Statement.{statement}
 use Rattle.characters.proofs.decoder.flag_bit.Tie as tie

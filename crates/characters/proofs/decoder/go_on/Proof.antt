@@ -1,7 +1,6 @@
 -- `characters::decoder::go_on` meets its contract.
 -- Assumes nothing.
-use borrow.Author.Needs.{needs}
-use mathlib.Core.Path.{refl, sym, _∙_}
+use mathlib.Core.Path.{refl}
 use Rattle.characters.specs.Decoder.{goesOn}
 use Rattle.characters.proofs.decoder.go_on.Statement.{statement}
 use Rattle.characters.proofs.decoder.go_on.Tie as tie

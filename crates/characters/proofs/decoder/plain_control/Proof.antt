@@ -1,7 +1,6 @@
 -- `characters::decoder::plain_control` meets its contract.
 -- Assumes nothing.
 use borrow.Author.Needs.{needs}
-use mathlib.Core.Path.{refl, sym, _∙_}
 use Rattle.characters.proofs.decoder.plain_control.Statement.{statement}
 use Rattle.characters.proofs.decoder.plain_control.Tie as tie
 

@@ -1,7 +1,6 @@
 -- `characters::decoder::refused` meets its contract.
 -- Assumes nothing.
-use borrow.Author.Needs.{needs}
-use mathlib.Core.Path.{refl, sym, _∙_}
+use mathlib.Core.Path.{refl}
 use Rattle.characters.specs.Calls.{decodeRefused}
 use Rattle.characters.proofs.decoder.refused.Statement.{statement}
 use Rattle.characters.proofs.decoder.refused.Tie as tie

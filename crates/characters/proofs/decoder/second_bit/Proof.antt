@@ -1,7 +1,7 @@
 -- `characters::decoder::second_bit` meets its contract.
 -- Assumes nothing.
 use borrow.Author.Needs.{needs}
-use mathlib.Core.Path.{refl, sym, _∙_}
+use mathlib.Core.Path.{sym, _∙_}
 use Rattle.characters.proofs.decoder.second_bit.Statement.{statement}
 use Rattle.characters.proofs.decoder.second_bit.Tie as tie
 

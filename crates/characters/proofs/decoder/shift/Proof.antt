@@ -3,7 +3,6 @@
 use borrow.Author.Needs.{needs}
 use Rattle.characters.proofs.BitLaws.{bit-le}
 use native.Mathlib.Omega.{arith}
-use mathlib.Core.Path.{refl, sym, _∙_}
 use Rattle.characters.proofs.decoder.shift.Statement.{statement}
 use Rattle.characters.proofs.decoder.shift.Tie as tie
 

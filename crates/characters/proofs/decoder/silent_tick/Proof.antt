@@ -1,7 +1,7 @@
 -- `characters::decoder::silent_tick` meets its contract.
 -- Assumes nothing.
 use borrow.Author.Needs.{needs}
-use mathlib.Core.Path.{refl, sym, _∙_}
+use mathlib.Core.Path.{sym, _∙_}
 use borrow.Author.Tests.{le-ltb, lt-ltb}
 use Rattle.characters.specs.Decoder.{silence}
 use Rattle.characters.proofs.decoder.silent_tick.Statement.{statement}

@@ -1,7 +1,6 @@
 -- `characters::decoder::stop` meets its contract.
 -- Assumes nothing.
-use borrow.Author.Needs.{needs}
-use mathlib.Core.Path.{refl, sym, _∙_}
+use mathlib.Core.Path.{refl}
 use Rattle.characters.specs.Decoder.{stops}
 use Rattle.characters.proofs.decoder.stop.Statement.{statement}
 use Rattle.characters.proofs.decoder.stop.Tie as tie

@@ -1,7 +1,6 @@
 -- `characters::encoder::accept` meets its contract.
 -- Assumes nothing.
 use borrow.Author.Needs.{needs}
-use mathlib.Core.Path.{refl, sym, _∙_}
 use Rattle.characters.specs.Encoder.{sent}
 use Rattle.characters.proofs.WireLaws.{count-of-any, last-of-any}
 use Rattle.characters.proofs.encoder.accept.Statement.{statement}

@@ -5,7 +5,7 @@ use mathlib.Core.Bool.{true, false}
 use mathlib.Core.List.{[], _∷_}
 use Rattle.characters.specs.Wire.{fct}
 use Rattle.characters.proofs.WireLaws.{control-number, time-code-number}
-use mathlib.Core.Path.{refl, sym, _∙_}
+use mathlib.Core.Path.{sym, _∙_}
 use Rattle.characters.proofs.encoder.bits_of.Statement.{statement}
 use Rattle.characters.proofs.encoder.bits_of.Tie as tie
 

@@ -1,7 +1,7 @@
 -- `characters::encoder::count_of` meets its contract.
 -- Assumes nothing.
 use borrow.Author.Needs.{needs}
-use mathlib.Core.Path.{refl, sym, _∙_}
+use mathlib.Core.Path.{sym, _∙_}
 use Rattle.characters.proofs.encoder.count_of.Statement.{statement}
 use Rattle.characters.proofs.encoder.count_of.Tie as tie
 

@@ -1,7 +1,7 @@
 -- `characters::encoder::encode` meets its contract.
 -- Assumes nothing.
 use borrow.Author.Needs.{needs}
-use mathlib.Core.Path.{refl, sym, _∙_}
+use mathlib.Core.Path.{sym, _∙_}
 use borrow.Author.Tests.{eq-eqb, ne-eqb}
 use Rattle.characters.specs.Calls.{encodeAnswer}
 use Rattle.characters.proofs.encoder.encode.Statement.{statement}

@@ -1,7 +1,6 @@
 -- `characters::encoder::fresh` meets its contract.
 -- Assumes nothing.
-use borrow.Author.Needs.{needs}
-use mathlib.Core.Path.{refl, sym, _∙_}
+use mathlib.Core.Path.{refl}
 use Rattle.characters.specs.Encoder.{freshEncoder}
 use Rattle.characters.proofs.encoder.fresh.Statement.{statement}
 use Rattle.characters.proofs.encoder.fresh.Tie as tie

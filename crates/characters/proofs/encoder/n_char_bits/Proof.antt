@@ -6,7 +6,7 @@ use mathlib.Core.List.{[]}
 use Rattle.characters.proofs.WireLaws.{data-number, control-number}
 use Rattle.characters.proofs.BitLaws.{bit-le}
 use native.Mathlib.Omega.{arith}
-use mathlib.Core.Path.{refl, sym, _∙_}
+use mathlib.Core.Path.{sym}
 use borrow.Author.Tests.{eq-eqb, le-ltb, lt-ltb, ne-eqb}
 use Rattle.characters.proofs.encoder.n_char_bits.Statement.{statement}
 use Rattle.characters.proofs.encoder.n_char_bits.Tie as tie

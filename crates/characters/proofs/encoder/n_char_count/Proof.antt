@@ -1,9 +1,8 @@
 -- `characters::encoder::n_char_count` meets its contract.
 -- Assumes nothing.
 use lib.Dec.{eqb}
-use borrow.Author.Needs.{needs}
 use Rattle.characters.proofs.WireLaws.{end-count}
-use mathlib.Core.Path.{refl, sym, _∙_}
+use mathlib.Core.Path.{sym}
 use borrow.Author.Tests.{le-ltb, lt-ltb}
 use Rattle.characters.proofs.encoder.n_char_count.Statement.{statement}
 use Rattle.characters.proofs.encoder.n_char_count.Tie as tie

@@ -1,7 +1,6 @@
 -- `characters::encoder::refused` meets its contract.
 -- Assumes nothing.
-use borrow.Author.Needs.{needs}
-use mathlib.Core.Path.{refl, sym, _∙_}
+use mathlib.Core.Path.{refl}
 use Rattle.characters.specs.Calls.{encodeRefused}
 use Rattle.characters.proofs.encoder.refused.Statement.{statement}
 use Rattle.characters.proofs.encoder.refused.Tie as tie
