@@ -10,3 +10,4 @@ pub mod PortsAnswers
 pub mod TableAnswers
 pub mod ExactlyProofs
 pub mod StarredProofs
+pub mod WorthlessProofs

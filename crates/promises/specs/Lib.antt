@@ -1,3 +1,5 @@
 pub mod OneAnswer
 pub mod Exactly
 pub mod Starred
+pub mod Promises
+pub mod Worthless
