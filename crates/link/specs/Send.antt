@@ -32,6 +32,15 @@ abbrev pub sentValue : Sent → ℕ
 sentValue Silence = 0
 sentValue (Sends t) = valueOf t
 
+-- "waiting Time-Code", by number: 0 none, 1 one, with its eight bits
+abbrev pub offerNumber : Offer → ℕ
+offerNumber Absent = 0
+offerNumber (Code v) = 1
+
+abbrev pub offerValue : Offer → ℕ
+offerValue Absent = 0
+offerValue (Code v) = v
+
 -- "FCT if it may": free places of a receive store of this size
 abbrev pub grants : ℕ → Link → Bool
 grants size l = mayGrant (l .credit .given .0) (free size (l .rx))

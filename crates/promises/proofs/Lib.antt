@@ -11,3 +11,4 @@ pub mod TableAnswers
 pub mod ExactlyProofs
 pub mod StarredProofs
 pub mod WorthlessProofs
+pub mod EnumsProofs

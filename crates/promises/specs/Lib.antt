@@ -3,3 +3,4 @@ pub mod Exactly
 pub mod Starred
 pub mod Promises
 pub mod Worthless
+pub mod Enums
