@@ -12,7 +12,7 @@ use borrow.Author.Tests.{eq-eqb, ne-eqb}
 use Rattle.vocabulary.specs.Choice.{pick}
 use Rattle.vocabulary.proofs.Below.{below, each, each-at}
 use Rattle.link.specs.Moves.{stateNumber, isState, eventNumber, Conditions, stateAfter}
-use Rattle.link.specs.Table.{tableAt, states, stateOf, waitsFor, lookedUp}
+use Rattle.link.specs.Table.{tableAt, states, stateOf, waitsFor, lookedUp, FindsFirstThatFits}
 use Rattle.link.specs.declared.LinkState.{LinkState}
 use Rattle.link.specs.declared.LinkState.the-variants.{ErrorReset, ErrorWait, Ready, Started, Connecting, Run}
 use Rattle.link.specs.declared.Event.{Event}
@@ -128,7 +128,7 @@ every-case f t s e c =
 abbrev agree : LinkState → Event → Conditions → Bool
 agree s e c = isState (lookedUp s e c) (stateAfter s e c)
 
-pub looked-up : (s : LinkState) (e : Event) (c : Conditions) → lookedUp s e c ≡ stateAfter s e c
+pub looked-up : FindsFirstThatFits
 looked-up s e c =
     sym (state-of-number (lookedUp s e c))
     ∙ ap stateOf (eqb→eq (stateNumber (lookedUp s e c)) (stateNumber (stateAfter s e c)) (every-case agree tt s e c))
