@@ -1,5 +1,5 @@
--- The constant table has what document 01's rows say, and two look-ups find the first move that fits: finite facts, each one
--- computed test carried to every case by a law.
+-- The constant table has what document 01's rows say, and two look-ups find the first move that fits: finite facts, each
+-- one computed test carried to every case by a law.
 -- Assumes nothing.
 use mathlib.Core.Path.{_≡_, refl, sym, ap, subst, _∙_}
 use mathlib.Core.Bool.{Bool, true, false}
@@ -165,7 +165,8 @@ waits-found s e c same =
     ∙ sym (rw (eq-eqb (stateNumber (tableAt s (eventNumber e))) (stateNumber s) same))
     ∙ looked-up s e c
 
-pub event-found : (s : LinkState) (e : Event) (c : Conditions) → (stateNumber (tableAt s (eventNumber e)) ≡ stateNumber s → ⊥) →
+pub event-found : (s : LinkState) (e : Event) (c : Conditions) →
+    (stateNumber (tableAt s (eventNumber e)) ≡ stateNumber s → ⊥) →
     stateOf (stateNumber (tableAt s (eventNumber e))) ≡ stateAfter s e c
 event-found s e c other =
     state-of-number (tableAt s (eventNumber e))

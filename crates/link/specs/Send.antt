@@ -49,8 +49,8 @@ grants size l = mayGrant (l .credit .given .0) (free size (l .rx))
 abbrev pub hasNChar : Link → Bool
 hasNChar l = not (eqb (l .credit .held .0) 0) && not (empty (l .tx))
 
--- "else FCT if it may, else the front N-Char if credit is held, else NULL", with a receive store of this size and these transmit
--- places
+-- "else FCT if it may, else the front N-Char if credit is held, else NULL", with a receive store of this size and these
+-- transmit places
 abbrev pub choiceInRun : ℕ → List ℕ → Link → Token
 choiceInRun size tx l = pick (grants size l) Fct (pick (hasNChar l) (NChar (frontOf tx (l .tx))) Null)
 

@@ -1,4 +1,5 @@
--- 01, The link end: "The next state for each state and kind of event stands once, as a table of constants." How it is looked up.
+-- 01, The link end: "The next state for each state and kind of event stands once, as a table of constants." How it is
+-- looked up.
 -- Assumes nothing.
 use mathlib.Core.Path.{_≡_}
 use Prim.Native.Nat.{ℕ}
@@ -6,7 +7,8 @@ use mathlib.Core.List.{List, [], _∷_}
 use lib.ListN.{getD}
 use lib.Dec.{eqb}
 use Rattle.vocabulary.specs.Choice.{pick}
-use Rattle.link.specs.Moves.{isState, eventNumber, When, came, isEnabled, nullsExchanged, linkDisabled, timerAtLimit, Move, row, Conditions, stateAfter}
+use Rattle.link.specs.Moves.{isState, eventNumber, When, came, isEnabled, nullsExchanged, linkDisabled, timerAtLimit}
+use Rattle.link.specs.Moves.{Move, row, Conditions, stateAfter}
 use Rattle.link.specs.declared.LinkState.{LinkState}
 use Rattle.link.specs.declared.LinkState.the-variants.{ErrorReset, ErrorWait, Ready, Started, Connecting, Run}
 use Rattle.link.specs.declared.Event.{Event}

@@ -1,5 +1,5 @@
--- What an input does and what an output is held by, each by number with the values that it carries; a case that carries no such
--- value has zero.
+-- What an input does and what an output is held by: each case by number, with the values that it carries. A case that
+-- carries no such value has zero.
 -- Assumes nothing.
 use Prim.Native.Nat.{ℕ}
 use mathlib.Core.Bool.{false}

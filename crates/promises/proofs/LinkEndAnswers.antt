@@ -70,7 +70,8 @@ calls-fault-places κs a x y s t p q = ap places (p ∙ sym q)
 pub calls-control : OneResult 2 calls-control-kinds.ps calls-control-kinds.r calls-control-reads.Post
 calls-control κs a x y s t p q = ap answer (p ∙ sym q)
 
-pub calls-control-places : OnePlaces 2 calls-control-kinds.ps calls-control-kinds.r calls-control-reads.Post (λ κs s. now (s .1 .0))
+pub calls-control-places :
+    OnePlaces 2 calls-control-kinds.ps calls-control-kinds.r calls-control-reads.Post (λ κs s. now (s .1 .0))
 calls-control-places κs a x y s t p q = ap places (p ∙ sym q)
 
 pub calls-reset : OneResult 2 calls-reset-kinds.ps calls-reset-kinds.r calls-reset-reads.Post
@@ -88,7 +89,8 @@ calls-send-places κs a x y s t p q = ap places (p ∙ sym q)
 pub calls-receive : OneResult 2 calls-receive-kinds.ps calls-receive-kinds.r calls-receive-reads.Post
 calls-receive κs a x y s t p q = ap answer (p ∙ sym q)
 
-pub calls-receive-places : OnePlaces 2 calls-receive-kinds.ps calls-receive-kinds.r calls-receive-reads.Post (λ κs s. now (s .1 .0))
+pub calls-receive-places :
+    OnePlaces 2 calls-receive-kinds.ps calls-receive-kinds.r calls-receive-reads.Post (λ κs s. now (s .1 .0))
 calls-receive-places κs a x y s t p q = ap places (p ∙ sym q)
 
 pub calls-put : OneResult 1 calls-put-kinds.ps calls-put-kinds.r calls-put-reads.Post

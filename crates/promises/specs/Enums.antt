@@ -1,5 +1,5 @@
--- 01, Forms we want to see: "Where an answer is an enum, a definition gives this paper's number and values for every one of its
--- cases." That number and values leave nothing out: they say which case it is, and what it carries.
+-- 01, Forms we want to see: "Where an answer is an enum, a definition gives this paper's number and values for every one of
+-- its cases." That number and values leave nothing out: they say which case it is, and what it carries.
 -- Assumes nothing.
 use mathlib.Core.Path.{_≡_}
 use Prim.Native.Nat.{ℕ}

@@ -1,7 +1,7 @@
 // The routing table (01, The router): 256 rows that the caller lends, and what a packet's first N-Char says.
 ghost use mathlib.Core.Path.{_≡_};
 ghost use Prim.Native.Nat.{_<_};
-ghost use Rattle.table.specs.Rows.{freshTable, requests, cleared, writtenRow, rowAt, withRow, outsideRows};
+ghost use Rattle.table.specs.Rows.{freshTable, requests, writtenRow, rowAt, withRow, outsideRows};
 ghost use Rattle.table.specs.Rows.{deletes, isHigh, isInvalid};
 ghost use Rattle.table.specs.Headings.{toPort, byRow, rowHeading, addressHeading, heading};
 ghost use Rattle.table.specs.Headings.{headingNumber, noDirection, headingValues};
