@@ -1,5 +1,5 @@
--- The constant table has what document 01's rows say, and two look-ups find the first move that fits: finite facts, each one
--- computed test carried to every case by a law.
+-- The constant table has what document 01's rows say, and two look-ups find the first move that fits: finite facts, each
+-- one computed test carried to every case by a law.
 -- Assumes nothing.
 use mathlib.Core.Path.{_≡_, refl, sym, ap, subst, _∙_}
 use mathlib.Core.Bool.{Bool, true, false}
@@ -12,7 +12,7 @@ use borrow.Author.Tests.{eq-eqb, ne-eqb}
 use Rattle.vocabulary.specs.Choice.{pick}
 use Rattle.vocabulary.proofs.Below.{below, each, each-at}
 use Rattle.link.specs.Moves.{stateNumber, isState, eventNumber, Conditions, stateAfter}
-use Rattle.link.specs.Table.{tableAt, states, stateOf, waitsFor, lookedUp}
+use Rattle.link.specs.Table.{tableAt, states, stateOf, waitsFor, lookedUp, FindsFirstThatFits}
 use Rattle.link.specs.declared.LinkState.{LinkState}
 use Rattle.link.specs.declared.LinkState.the-variants.{ErrorReset, ErrorWait, Ready, Started, Connecting, Run}
 use Rattle.link.specs.declared.Event.{Event}
@@ -128,7 +128,7 @@ every-case f t s e c =
 abbrev agree : LinkState → Event → Conditions → Bool
 agree s e c = isState (lookedUp s e c) (stateAfter s e c)
 
-pub looked-up : (s : LinkState) (e : Event) (c : Conditions) → lookedUp s e c ≡ stateAfter s e c
+pub looked-up : FindsFirstThatFits
 looked-up s e c =
     sym (state-of-number (lookedUp s e c))
     ∙ ap stateOf (eqb→eq (stateNumber (lookedUp s e c)) (stateNumber (stateAfter s e c)) (every-case agree tt s e c))
@@ -165,7 +165,8 @@ waits-found s e c same =
     ∙ sym (rw (eq-eqb (stateNumber (tableAt s (eventNumber e))) (stateNumber s) same))
     ∙ looked-up s e c
 
-pub event-found : (s : LinkState) (e : Event) (c : Conditions) → (stateNumber (tableAt s (eventNumber e)) ≡ stateNumber s → ⊥) →
+pub event-found : (s : LinkState) (e : Event) (c : Conditions) →
+    (stateNumber (tableAt s (eventNumber e)) ≡ stateNumber s → ⊥) →
     stateOf (stateNumber (tableAt s (eventNumber e))) ≡ stateAfter s e c
 event-found s e c other =
     state-of-number (tableAt s (eventNumber e))

@@ -32,6 +32,15 @@ abbrev pub sentValue : Sent → ℕ
 sentValue Silence = 0
 sentValue (Sends t) = valueOf t
 
+-- "waiting Time-Code", by number: 0 none, 1 one, with its eight bits
+abbrev pub offerNumber : Offer → ℕ
+offerNumber Absent = 0
+offerNumber (Code v) = 1
+
+abbrev pub offerValue : Offer → ℕ
+offerValue Absent = 0
+offerValue (Code v) = v
+
 -- "FCT if it may": free places of a receive store of this size
 abbrev pub grants : ℕ → Link → Bool
 grants size l = mayGrant (l .credit .given .0) (free size (l .rx))
@@ -40,8 +49,8 @@ grants size l = mayGrant (l .credit .given .0) (free size (l .rx))
 abbrev pub hasNChar : Link → Bool
 hasNChar l = not (eqb (l .credit .held .0) 0) && not (empty (l .tx))
 
--- "else FCT if it may, else the front N-Char if credit is held, else NULL", with a receive store of this size and these transmit
--- places
+-- "else FCT if it may, else the front N-Char if credit is held, else NULL", with a receive store of this size and these
+-- transmit places
 abbrev pub choiceInRun : ℕ → List ℕ → Link → Token
 choiceInRun size tx l = pick (grants size l) Fct (pick (hasNChar l) (NChar (frontOf tx (l .tx))) Null)
 

@@ -1,11 +1,14 @@
--- 01, The link end: "The next state for each state and kind of event stands once, as a table of constants." How it is looked up.
+-- 01, The link end: "The next state for each state and kind of event stands once, as a table of constants." How it is
+-- looked up.
 -- Assumes nothing.
+use mathlib.Core.Path.{_≡_}
 use Prim.Native.Nat.{ℕ}
 use mathlib.Core.List.{List, [], _∷_}
 use lib.ListN.{getD}
 use lib.Dec.{eqb}
 use Rattle.vocabulary.specs.Choice.{pick}
-use Rattle.link.specs.Moves.{isState, eventNumber, When, came, isEnabled, nullsExchanged, linkDisabled, timerAtLimit, Move, row, Conditions}
+use Rattle.link.specs.Moves.{isState, eventNumber, When, came, isEnabled, nullsExchanged, linkDisabled, timerAtLimit}
+use Rattle.link.specs.Moves.{Move, row, Conditions, stateAfter}
 use Rattle.link.specs.declared.LinkState.{LinkState}
 use Rattle.link.specs.declared.LinkState.the-variants.{ErrorReset, ErrorWait, Ready, Started, Connecting, Run}
 use Rattle.link.specs.declared.Event.{Event}
@@ -46,3 +49,7 @@ waitsFor Run c = pick (c .disabled) 8 0
 abbrev pub lookedUp : LinkState → Event → Conditions → LinkState
 lookedUp s event c =
     pick (isState (tableAt s (eventNumber event)) s) (tableAt s (waitsFor s c)) (tableAt s (eventNumber event))
+
+-- what they find is "the first that fits"
+abbrev pub FindsFirstThatFits : Type 0
+FindsFirstThatFits = (s : LinkState) (event : Event) (c : Conditions) → lookedUp s event c ≡ stateAfter s event c

@@ -5,7 +5,8 @@ ghost use Prim.Native.Nat.{_+_, _≤_};
 ghost use Rattle.vocabulary.specs.Choice.{pick};
 ghost use Rattle.vocabulary.specs.declared.Token.{Token};
 ghost use Rattle.link.specs.Credit.{withGiven};
-ghost use Rattle.link.specs.Send.{sentKind, sentValue, grants, hasNChar, choiceInRun, choiceWith};
+ghost use Rattle.link.specs.Send.{sentKind, sentValue, offerNumber, offerValue};
+ghost use Rattle.link.specs.Send.{grants, hasNChar, choiceInRun, choiceWith};
 ghost use Rattle.link.specs.Send.{choice, nullSent, nCharSent, bookedToken, booked, sending};
 use crate::GivenOut;
 use crate::Link;
@@ -34,6 +35,26 @@ pub fn sent_value(s: Sent) -> u16
     match s {
         Sent::Silence => 0,
         Sent::Sends(t) => vocabulary::value(t),
+    }
+}
+
+// 0 where no Time-Code waits, 1 where one does.
+pub fn offer_number(o: Offer) -> u8
+    ensures { λ r. ⌜ r ≡ offerNumber o ⌝ }
+{
+    match o {
+        Offer::Absent => 0,
+        Offer::Code(_) => 1,
+    }
+}
+
+// The waiting Time-Code; 0 where none waits.
+pub fn offer_value(o: Offer) -> u8
+    ensures { λ r. ⌜ r ≡ offerValue o ⌝ }
+{
+    match o {
+        Offer::Absent => 0,
+        Offer::Code(v) => v,
     }
 }
 

@@ -1,4 +1,5 @@
 pub mod Each
 pub mod Ports
+pub mod Numbers
 pub mod Places
 pub mod Refusals

@@ -1,6 +1,7 @@
 // The router's eleven ports (01, The router): what is kept of each, and their 22 stores in one lent area.
 ghost use mathlib.Core.Path.{_≡_};
 ghost use Rattle.ports.specs.Ports.{freshRouter, modeAt, outputAt, storeAt, withMode, withOutput, withStore};
+ghost use Rattle.ports.specs.Numbers.{modeNumber, wantsNothing, modeWanted, modeOutput, ownerNumber, ownerInput};
 ghost use Rattle.ports.specs.Places.{machine, badArea, fullAt, frontAt, withoutFront, withBehind};
 ghost use Rattle.ports.specs.Refusals.{isOwner, isRouted, badWanted, badMode};
 ghost use Rattle.ports.specs.Refusals.{badOutput, badOwner, badPort, badPorts, badStores};
@@ -54,6 +55,71 @@ pub fn fresh() -> Router
             last: 10,
         }; 11],
         stores: [s; 22],
+    }
+}
+
+// What an input does, by number: 0 idle, 1 waiting, 2 routed, 3 spilling.
+pub fn mode_number(m: Mode) -> u8
+    ensures { λ r. ⌜ r ≡ modeNumber m ⌝ }
+{
+    match m {
+        Mode::Idle => 0,
+        Mode::Waiting(_) => 1,
+        Mode::Routed(_) => 2,
+        Mode::Spilling => 3,
+    }
+}
+
+fn wants_nothing() -> Wanted
+    ensures { λ r. ⌜ r ≡ wantsNothing ⌝ }
+{
+    Wanted {
+        ports: 0,
+        high: false,
+    }
+}
+
+// What a waiting input wants; zero for any other.
+pub fn mode_wanted(m: Mode) -> Wanted
+    ensures { λ r. ⌜ r ≡ modeWanted m ⌝ }
+{
+    match m {
+        Mode::Idle => wants_nothing(),
+        Mode::Waiting(w) => w,
+        Mode::Routed(_) => wants_nothing(),
+        Mode::Spilling => wants_nothing(),
+    }
+}
+
+// The output of a routed input; 0 for any other.
+pub fn mode_output(m: Mode) -> usize
+    ensures { λ r. ⌜ r ≡ modeOutput m ⌝ }
+{
+    match m {
+        Mode::Idle => 0,
+        Mode::Waiting(_) => 0,
+        Mode::Routed(o) => o,
+        Mode::Spilling => 0,
+    }
+}
+
+// 0 where the output is free, 1 where an input holds it.
+pub fn owner_number(w: Owner) -> u8
+    ensures { λ r. ⌜ r ≡ ownerNumber w ⌝ }
+{
+    match w {
+        Owner::Free => 0,
+        Owner::By(_) => 1,
+    }
+}
+
+// The input that holds the output; 0 where it is free.
+pub fn owner_input(w: Owner) -> usize
+    ensures { λ r. ⌜ r ≡ ownerInput w ⌝ }
+{
+    match w {
+        Owner::Free => 0,
+        Owner::By(i) => i,
     }
 }
 

@@ -35,5 +35,6 @@ decoder-tick κs a x y s t p q = p ∙ sym q
 pub report-report-kind : OneResult 0 report-report-kind-kinds.ps report-report-kind-kinds.r report-report-kind-reads.Post
 report-report-kind κs a x y s t p q = p ∙ sym q
 
-pub report-report-value : OneResult 0 report-report-value-kinds.ps report-report-value-kinds.r report-report-value-reads.Post
+pub report-report-value :
+    OneResult 0 report-report-value-kinds.ps report-report-value-kinds.r report-report-value-reads.Post
 report-report-value κs a x y s t p q = p ∙ sym q

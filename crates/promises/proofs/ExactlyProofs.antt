@@ -1,21 +1,20 @@
--- A call answers 0 where it accepts and the refusal's number where it refuses: one law, cited once for each call. That the tests
--- stand in the table's order is computed.
+-- A call answers 0 where it accepts and the refusal's number where it refuses: one law, cited once for each call. That the
+-- tests stand in the table's order is computed.
 -- Assumes nothing.
 use mathlib.Core.Path.{_≡_, refl}
 use mathlib.Core.Bool.{Bool, true, false}
-use mathlib.Core.List.{List}
 use Prim.Native.Nat.{ℕ}
 use lib.Dec.{eqb}
 use borrow.Author.Tests.{eqb-true}
 use Rattle.vocabulary.specs.Choice.{pick}
-use Rattle.vocabulary.specs.Refusals.{Test, firstOf, TestedInOrder}
 use Rattle.characters.specs.Encoder.{sent}
-use Rattle.characters.specs.Decoder.{bitStep, tickStep}
-use Rattle.characters.specs.Refusals.{decoderTests, encoderTests}
 use Rattle.characters.specs.Calls.{bitAnswer, tickAnswer, encodeAnswer, encodeRefused, decodeAccepted, decodeRefused}
 use Rattle.characters.specs.declared.decoder.Decoded.{Decoded}
 use Rattle.characters.specs.declared.encoder.Encoded.{Encoded}
-use Rattle.link.specs.Calls.{Outcome, refusedWith, answered, accepted, refused, tickOutcome, faultOutcome, controlOutcome, resetOutcome, dispatchOf, dispatched, sendRefused, sendOutcome, receiptOf, received, receiveRefused, tokenAccepted, receiveOutcome, putAnswer, takeAccepted, takeRefused, takeAnswer, offerAccepted, offerAnswer}
+use Rattle.link.specs.Calls.{Outcome, refusedWith, answered, accepted, refused, tickOutcome, faultOutcome, controlOutcome}
+use Rattle.link.specs.Calls.{resetOutcome, dispatchOf, dispatched, sendRefused, sendOutcome, receiptOf, received}
+use Rattle.link.specs.Calls.{receiveRefused, tokenAccepted, receiveOutcome, putAnswer, takeAccepted, takeRefused}
+use Rattle.link.specs.Calls.{takeAnswer, offerAccepted, offerAnswer}
 use Rattle.link.specs.declared.Answer.{Answer}
 use Rattle.link.specs.declared.Dispatch.{Dispatch}
 use Rattle.link.specs.declared.Receipt.{Receipt}
@@ -24,7 +23,7 @@ use Rattle.router.specs.Calls.{Put, puts, Took, tookOne, takes, Run, told as ro
 use Rattle.router.specs.Held.{heldThrough, heldRefused, stillHeld}
 use Rattle.router.specs.declared.RowRead.{RowRead}
 use Rattle.router.specs.declared.StillHeld.{StillHeld}
-use Rattle.promises.specs.Exactly.{Exactly, RefusedExactly}
+use Rattle.promises.specs.Exactly.{RefusedExactly}
 
 -- what is read off an answer that is accepted where the number is 0, and refused with the number elsewhere, is the number
 told : {A : Type 0} (read : A → ℕ) (n : ℕ) (yea nay : A) → read yea ≡ 0 → read nay ≡ n → read (pick (eqb n 0) yea nay) ≡ n

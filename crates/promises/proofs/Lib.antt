@@ -10,3 +10,5 @@ pub mod PortsAnswers
 pub mod TableAnswers
 pub mod ExactlyProofs
 pub mod StarredProofs
+pub mod WorthlessProofs
+pub mod EnumsProofs

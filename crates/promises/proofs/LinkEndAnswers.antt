@@ -14,6 +14,10 @@ use Rattle.link.proofs.send.sent_kind.Kinds as send-sent-kind-kinds
 use Rattle.link.proofs.send.sent_kind.Reads as send-sent-kind-reads
 use Rattle.link.proofs.send.sent_value.Kinds as send-sent-value-kinds
 use Rattle.link.proofs.send.sent_value.Reads as send-sent-value-reads
+use Rattle.link.proofs.send.offer_number.Kinds as send-offer-number-kinds
+use Rattle.link.proofs.send.offer_number.Reads as send-offer-number-reads
+use Rattle.link.proofs.send.offer_value.Kinds as send-offer-value-kinds
+use Rattle.link.proofs.send.offer_value.Reads as send-offer-value-reads
 use Rattle.link.proofs.calls.tick.Kinds as calls-tick-kinds
 use Rattle.link.proofs.calls.tick.Reads as calls-tick-reads
 use Rattle.link.proofs.calls.fault.Kinds as calls-fault-kinds
@@ -66,7 +70,8 @@ calls-fault-places κs a x y s t p q = ap places (p ∙ sym q)
 pub calls-control : OneResult 2 calls-control-kinds.ps calls-control-kinds.r calls-control-reads.Post
 calls-control κs a x y s t p q = ap answer (p ∙ sym q)
 
-pub calls-control-places : OnePlaces 2 calls-control-kinds.ps calls-control-kinds.r calls-control-reads.Post (λ κs s. now (s .1 .0))
+pub calls-control-places :
+    OnePlaces 2 calls-control-kinds.ps calls-control-kinds.r calls-control-reads.Post (λ κs s. now (s .1 .0))
 calls-control-places κs a x y s t p q = ap places (p ∙ sym q)
 
 pub calls-reset : OneResult 2 calls-reset-kinds.ps calls-reset-kinds.r calls-reset-reads.Post
@@ -84,7 +89,8 @@ calls-send-places κs a x y s t p q = ap places (p ∙ sym q)
 pub calls-receive : OneResult 2 calls-receive-kinds.ps calls-receive-kinds.r calls-receive-reads.Post
 calls-receive κs a x y s t p q = ap answer (p ∙ sym q)
 
-pub calls-receive-places : OnePlaces 2 calls-receive-kinds.ps calls-receive-kinds.r calls-receive-reads.Post (λ κs s. now (s .1 .0))
+pub calls-receive-places :
+    OnePlaces 2 calls-receive-kinds.ps calls-receive-kinds.r calls-receive-reads.Post (λ κs s. now (s .1 .0))
 calls-receive-places κs a x y s t p q = ap places (p ∙ sym q)
 
 pub calls-put : OneResult 1 calls-put-kinds.ps calls-put-kinds.r calls-put-reads.Post
@@ -98,3 +104,9 @@ calls-take κs a x y s t p q = p ∙ sym q
 
 pub calls-offer : OneResult 0 calls-offer-kinds.ps calls-offer-kinds.r calls-offer-reads.Post
 calls-offer κs a x y s t p q = p ∙ sym q
+
+pub send-offer-number : OneResult 0 send-offer-number-kinds.ps send-offer-number-kinds.r send-offer-number-reads.Post
+send-offer-number κs a x y s t p q = p ∙ sym q
+
+pub send-offer-value : OneResult 0 send-offer-value-kinds.ps send-offer-value-kinds.r send-offer-value-reads.Post
+send-offer-value κs a x y s t p q = p ∙ sym q

@@ -6,6 +6,16 @@ use Rattle.promises.specs.OneAnswer.{OneResult, OnePlaces}
 use Rattle.ports.specs.Places.{Machine}
 use Rattle.ports.proofs.fresh.Kinds as fresh-kinds
 use Rattle.ports.proofs.fresh.Reads as fresh-reads
+use Rattle.ports.proofs.mode_number.Kinds as mode-number-kinds
+use Rattle.ports.proofs.mode_number.Reads as mode-number-reads
+use Rattle.ports.proofs.mode_wanted.Kinds as mode-wanted-kinds
+use Rattle.ports.proofs.mode_wanted.Reads as mode-wanted-reads
+use Rattle.ports.proofs.mode_output.Kinds as mode-output-kinds
+use Rattle.ports.proofs.mode_output.Reads as mode-output-reads
+use Rattle.ports.proofs.owner_number.Kinds as owner-number-kinds
+use Rattle.ports.proofs.owner_number.Reads as owner-number-reads
+use Rattle.ports.proofs.owner_input.Kinds as owner-input-kinds
+use Rattle.ports.proofs.owner_input.Reads as owner-input-reads
 use Rattle.ports.proofs.mode_at.Kinds as mode-at-kinds
 use Rattle.ports.proofs.mode_at.Reads as mode-at-reads
 use Rattle.ports.proofs.output_at.Kinds as output-at-kinds
@@ -82,3 +92,18 @@ bad-ports κs a x y s t p q = p ∙ sym q
 
 pub bad-stores : OneResult 1 bad-stores-kinds.ps bad-stores-kinds.r bad-stores-reads.Post
 bad-stores κs a x y s t p q = p ∙ sym q
+
+pub mode-number : OneResult 0 mode-number-kinds.ps mode-number-kinds.r mode-number-reads.Post
+mode-number κs a x y s t p q = p ∙ sym q
+
+pub mode-wanted : OneResult 0 mode-wanted-kinds.ps mode-wanted-kinds.r mode-wanted-reads.Post
+mode-wanted κs a x y s t p q = p ∙ sym q
+
+pub mode-output : OneResult 0 mode-output-kinds.ps mode-output-kinds.r mode-output-reads.Post
+mode-output κs a x y s t p q = p ∙ sym q
+
+pub owner-number : OneResult 0 owner-number-kinds.ps owner-number-kinds.r owner-number-reads.Post
+owner-number κs a x y s t p q = p ∙ sym q
+
+pub owner-input : OneResult 0 owner-input-kinds.ps owner-input-kinds.r owner-input-reads.Post
+owner-input κs a x y s t p q = p ∙ sym q

@@ -5,6 +5,10 @@ use denote.Ref.{now}
 use Rattle.promises.specs.OneAnswer.{OneResult, OnePlaces}
 use Rattle.table.proofs.fresh.Kinds as fresh-kinds
 use Rattle.table.proofs.fresh.Reads as fresh-reads
+use Rattle.table.proofs.heading_number.Kinds as heading-number-kinds
+use Rattle.table.proofs.heading_number.Reads as heading-number-reads
+use Rattle.table.proofs.heading_values.Kinds as heading-values-kinds
+use Rattle.table.proofs.heading_values.Reads as heading-values-reads
 use Rattle.table.proofs.outside_rows.Kinds as outside-rows-kinds
 use Rattle.table.proofs.outside_rows.Reads as outside-rows-reads
 use Rattle.table.proofs.write.Kinds as write-kinds
@@ -28,3 +32,9 @@ read κs a x y s t p q = p ∙ sym q
 
 pub heading-of : OneResult 1 heading-of-kinds.ps heading-of-kinds.r heading-of-reads.Post
 heading-of κs a x y s t p q = p ∙ sym q
+
+pub heading-number : OneResult 0 heading-number-kinds.ps heading-number-kinds.r heading-number-reads.Post
+heading-number κs a x y s t p q = p ∙ sym q
+
+pub heading-values : OneResult 0 heading-values-kinds.ps heading-values-kinds.r heading-values-reads.Post
+heading-values κs a x y s t p q = p ∙ sym q

@@ -1,5 +1,5 @@
--- "each refusal comes exactly when the table says": the refusal that a call answers is the number of the first of its tests that
--- applies, 0 where none does, and the tests stand in the table's order.
+-- "each refusal comes exactly when the table says": the refusal that a call answers is the number of the first of its tests
+-- that applies, 0 where none does, and the tests stand in the table's order.
 -- Assumes nothing.
 use mathlib.Core.Path.{_≡_}
 use mathlib.Core.Bool.{Bool}
@@ -15,7 +15,8 @@ use Rattle.characters.specs.declared.encoder.Encoder.{Encoder}
 use Rattle.time.specs.declared.Time.{Time}
 use Rattle.link.specs.Ends.{End}
 use Rattle.link.specs.Refusals.{bothTests, receiveTests, putTests, takeTests, offerTests}
-use Rattle.link.specs.Calls.{tickOutcome, faultOutcome, controlOutcome, resetOutcome, sendOutcome, receiveOutcome, putAnswer, takeAnswer, offerAnswer}
+use Rattle.link.specs.Calls.{tickOutcome, faultOutcome, controlOutcome, resetOutcome, sendOutcome, receiveOutcome}
+use Rattle.link.specs.Calls.{putAnswer, takeAnswer, offerAnswer}
 use Rattle.link.specs.declared.Controls.{Controls}
 use Rattle.link.specs.declared.FaultKind.{FaultKind}
 use Rattle.link.specs.declared.Link.{Link}
@@ -51,7 +52,8 @@ pub record RefusedExactly : Type 0 where
   pub offer : (l : Link) (v : ℕ) → Exactly ((offerAnswer l v) .refusal) (offerTests l)
   pub router-put : (x : Machine) (port n : ℕ) → Exactly ((puts x port n) .refusal) (routerPutTests x port n)
   pub router-take : (x : Machine) (port : ℕ) → Exactly ((takes x port) .refusal) (routerTakeTests x port)
-  pub router-run : (x : Machine) (table : List ℕ) (limit : ℕ) → Exactly ((runs x table limit) .refusal) (routerRunTests x limit)
+  pub router-run : (x : Machine) (table : List ℕ) (limit : ℕ) →
+      Exactly ((runs x table limit) .refusal) (routerRunTests x limit)
   pub router-read : (s : RouterState) (table : List ℕ) (row : ℕ) →
       Exactly ((readsRow s table row) .refusal) (routerRowTests s row)
   pub router-held : (s : RouterState) (port : ℕ) → Exactly ((stillHeld s port) .refusal) (routerHeldTests s port)

@@ -1,4 +1,5 @@
--- "Show that the promise leaves one answer only": what is claimed of each public function's contract, as the toolchain reads it.
+-- "Show that the promise leaves one answer only": what is claimed of each public function's contract, as the toolchain reads
+-- it.
 -- Assumes nothing.
 use mathlib.Core.Path.{_≡_}
 use mathlib.Core.List.{List}

@@ -32,3 +32,17 @@ addressHeading table address =
 -- "Each idle input with a front N-Char: an end is discarded (empty packet)."
 unfoldable pub heading : List ℕ → ℕ → Heading
 heading table n = pick (isEnd n) End (addressHeading table n)
+
+-- a heading by number, in the order of the paper's sentences, and the values that it carries: ports, priority and deletion
+abbrev pub headingNumber : Heading → ℕ
+headingNumber End = 0
+headingNumber Nowhere = 1
+headingNumber (Ports d) = 2
+
+abbrev pub noDirection : Direction
+noDirection = record { ports = 0; high = false; delete = false }
+
+abbrev pub headingValues : Heading → Direction
+headingValues End = noDirection
+headingValues Nowhere = noDirection
+headingValues (Ports d) = d

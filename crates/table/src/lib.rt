@@ -1,9 +1,10 @@
 // The routing table (01, The router): 256 rows that the caller lends, and what a packet's first N-Char says.
 ghost use mathlib.Core.Path.{_≡_};
 ghost use Prim.Native.Nat.{_<_};
-ghost use Rattle.table.specs.Rows.{freshTable, requests, cleared, writtenRow, rowAt, withRow, outsideRows};
+ghost use Rattle.table.specs.Rows.{freshTable, requests, writtenRow, rowAt, withRow, outsideRows};
 ghost use Rattle.table.specs.Rows.{deletes, isHigh, isInvalid};
 ghost use Rattle.table.specs.Headings.{toPort, byRow, rowHeading, addressHeading, heading};
+ghost use Rattle.table.specs.Headings.{headingNumber, noDirection, headingValues};
 
 // Wanted ports, bit p for port p, at which priority, and whether the header is deleted.
 pub struct Direction {
@@ -144,4 +145,36 @@ pub fn heading_of(n: u16, table: &[u32; 256]) -> Heading
         return Heading::End;
     }
     address_heading(n as u8, table)
+}
+
+// A heading's number: 0 an end, 1 nowhere, 2 ports.
+pub fn heading_number(h: Heading) -> u8
+    ensures { λ r. ⌜ r ≡ headingNumber h ⌝ }
+{
+    match h {
+        Heading::End => 0,
+        Heading::Nowhere => 1,
+        Heading::Ports(_) => 2,
+    }
+}
+
+fn no_direction() -> Direction
+    ensures { λ r. ⌜ r ≡ noDirection ⌝ }
+{
+    Direction {
+        ports: 0,
+        high: false,
+        delete: false,
+    }
+}
+
+// What a heading carries; zero where it carries nothing.
+pub fn heading_values(h: Heading) -> Direction
+    ensures { λ r. ⌜ r ≡ headingValues h ⌝ }
+{
+    match h {
+        Heading::End => no_direction(),
+        Heading::Nowhere => no_direction(),
+        Heading::Ports(d) => d,
+    }
 }
