@@ -1,4 +1,4 @@
-/* Document 01's cases of the decoder and the encoder, through the C interface. */
+/* Document 01's cases of the decoder and the encoder, and each of their refusals, through the C interface. */
 #include "common.h"
 #include "neftolek.h"
 
@@ -127,11 +127,78 @@ static void encoded_is_decoded(void)
     }
 }
 
+/* Every refusal of the three calls. A refused call changes nothing and answers zero. */
+static void decoder_refuses(const uint32_t words[NEFTOLEK_DECODER_WORDS], uint32_t expected)
+{
+    uint32_t state[NEFTOLEK_DECODER_WORDS], out[2];
+    for (int tick = 0; tick <= 1; tick++) {
+        memcpy(state, words, sizeof state);
+        out[0] = out[1] = 77;
+        SAME(tick ? neftolek_decoder_tick(state, out) : neftolek_decoder_bit(state, 1, out), expected);
+        if (expected == 0)
+            continue;
+        SAME_BYTES(state, words, sizeof state);
+        SAME(out[0] | out[1], 0);
+    }
+}
+
+static void decoder_rows(void)
+{
+    static const struct {
+        uint32_t words[NEFTOLEK_DECODER_WORDS], expected;
+    } rows[] = {
+        {{0, 0, 0, 0, 0, 0, 0}, 0},           /* fresh */
+        {{7, 0, 0, 0, 0, 0, 0}, 7},           /* stopped */
+        {{8, 0, 0, 0, 0, 0, 0}, 1},           /* no phase */
+        {{0xffffffff, 0, 0, 0, 0, 0, 0}, 1},
+        {{0, 1, 0, 0, 0, 0, 0}, 1},           /* a fresh decoder counts no ticks */
+        {{7, 0, 0, 0, 0, 0, 1}, 1},           /* words of another phase: STATE before STOPPED */
+        {{1, 8, 0, 0, 0, 0, 255}, 0},
+        {{1, 9, 0, 0, 0, 0, 255}, 1},         /* nine ticks: it would have stopped */
+        {{1, 0, 0, 0, 0, 0, 46}, 1},          /* 01110100: it would hunt no longer */
+        {{1, 0, 0, 0, 0, 0, 256}, 1},
+        {{2, 0, 3, 257, 0, 0, 0}, 0},
+        {{2, 0, 3, 258, 0, 0, 0}, 1},         /* no N-Char */
+        {{2, 0, 4, 255, 0, 0, 0}, 0},
+        {{2, 0, 4, 256, 0, 0, 0}, 1},         /* no Time-Code */
+        {{2, 0, 2, 1, 0, 0, 0}, 1},           /* an FCT has no value */
+        {{2, 0, 5, 0, 0, 0, 0}, 0},
+        {{2, 0, 6, 0, 0, 0, 0}, 1},           /* nothing that could wait */
+        {{3, 0, 0, 0, 0, 2, 0}, 1},           /* no bit */
+        {{3, 0, 3, 258, 0, 1, 0}, 1},
+        {{4, 0, 0, 0, 1, 0, 1}, 0},
+        {{4, 0, 0, 0, 1, 0, 0}, 1},           /* no mark behind the data bits */
+        {{4, 0, 0, 0, 2, 0, 128}, 1},
+        {{5, 0, 0, 0, 0, 0, 0}, 0},
+        {{5, 9, 0, 0, 0, 0, 0}, 1},
+        {{6, 0, 0, 0, 1, 2, 0}, 1}};
+    for (unsigned k = 0; k < sizeof rows / sizeof *rows; k++)
+        decoder_refuses(rows[k].words, rows[k].expected);
+}
+
+static void encoder_rows(void)
+{
+    static const struct {
+        uint32_t state, kind, value, expected;
+    } rows[] = {{0, 1, 0, 0},   {0, 0, 0, 5},   {0, 5, 0, 5},   {1, 1, 1, 5}, {0, 2, 9, 5}, {1, 3, 257, 0},
+                {1, 3, 258, 5}, {0, 4, 255, 0}, {0, 4, 256, 5}, {2, 1, 0, 1}, {2, 9, 9, 1}, {0, 3, 0xffffffff, 5}};
+    for (unsigned k = 0; k < sizeof rows / sizeof *rows; k++) {
+        uint32_t state[NEFTOLEK_ENCODER_WORDS] = {rows[k].state}, out[2] = {77, 77};
+        SAME(neftolek_encode(state, rows[k].kind, rows[k].value, out), rows[k].expected);
+        if (rows[k].expected == 0)
+            continue;
+        SAME(state[0], rows[k].state);
+        SAME(out[0] | out[1], 0);
+    }
+}
+
 int main(void)
 {
     numbers_to_hold_it_to();
     disconnects();
     encodes();
     encoded_is_decoded();
+    decoder_rows();
+    encoder_rows();
     return verdict("characters");
 }
