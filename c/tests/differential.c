@@ -83,10 +83,11 @@ struct model_token token_of(uint32_t kind, uint32_t value)
     return t;
 }
 
-static void say_where(const struct tally *t, const char *what)
+static void differs(const struct tally *t, const char *what, size_t byte, uint32_t ours, uint32_t models)
 {
-    if (failures++ < MOST_SHOWN)
-        printf("%s: %s differs at seed %llu, episode %lu, step %lu", t->name, what, (unsigned long long)seed, episode, step);
+    failures++;
+    printf("%s, seed %llu, episode %lu, step %lu: %s differs at byte %lu: %lu, the model has %lu\n", t->name,
+           (unsigned long long)seed, episode, step, what, (unsigned long)byte, (unsigned long)ours, (unsigned long)models);
 }
 
 void answered(struct tally *t, uint32_t ours, uint32_t models)
@@ -96,10 +97,8 @@ void answered(struct tally *t, uint32_t ours, uint32_t models)
     calls++;
     if (ours < REFUSALS)
         t->met[ours]++;
-    if (ours == models)
-        return;
-    say_where(t, "refusal");
-    printf(": %lu, the model %lu\n", (unsigned long)ours, (unsigned long)models);
+    if (ours != models)
+        differs(t, "the refusal", 0, ours, models);
 }
 
 void compare(const struct tally *t, const char *what, const void *ours, const void *models, size_t bytes)
@@ -107,15 +106,15 @@ void compare(const struct tally *t, const char *what, const void *ours, const vo
     checks++;
     if (memcmp(ours, models, bytes) == 0)
         return;
-    say_where(t, what);
-    for (size_t k = 0; k < bytes; k += 2)
-        if (memcmp((const char *)ours + k, (const char *)models + k, 2) != 0) {
-            uint16_t a, b;
-            memcpy(&a, (const char *)ours + k, 2);
-            memcpy(&b, (const char *)models + k, 2);
-            printf(": byte %lu, %u, the model %u\n", (unsigned long)k, a, b);
+    for (size_t k = 0; k < bytes; k += 2) {
+        uint16_t a, b;
+        memcpy(&a, (const char *)ours + k, 2);
+        memcpy(&b, (const char *)models + k, 2);
+        if (a != b) {
+            differs(t, what, k, a, b);
             return;
         }
+    }
 }
 
 /* Each call was accepted, and refused with each number that it names, and with no other. */

@@ -18,10 +18,13 @@ struct tally link_calls[9] = {
     {"link_take", LENT | 1 << MODEL_EMPTY, {0}},
     {"link_offer", 1 | 1 << MODEL_STATE | 1 << MODEL_NOTRUN, {0}}};
 
+/* Places past the end of what is lent are compared too. */
+enum { BEYOND = 4, PLACES = 4097 + BEYOND };
+
 /* One side's end: what it is lent, and what it answered. */
 struct end {
     uint32_t state[NEFTOLEK_LINK_WORDS], time[NEFTOLEK_TIME_WORDS], out[3];
-    uint16_t rx[4100], tx[4100];
+    uint16_t rx[PLACES], tx[PLACES];
 };
 
 /* What a call is handed beside the end. */
@@ -152,8 +155,8 @@ static uint32_t make(enum call call, struct handed h)
     compare(t, "out", ours.out, models.out, sizeof ours.out);
     compare(t, "state", ours.state, models.state, sizeof ours.state);
     compare(t, "time", ours.time, models.time, sizeof ours.time);
-    compare(t, "receive store", ours.rx, models.rx, (h.rx_len + 4) * sizeof *ours.rx);
-    compare(t, "transmit store", ours.tx, models.tx, (h.tx_len + 4) * sizeof *ours.tx);
+    compare(t, "receive store", ours.rx, models.rx, (h.rx_len + BEYOND) * sizeof *ours.rx);
+    compare(t, "transmit store", ours.tx, models.tx, (h.tx_len + BEYOND) * sizeof *ours.tx);
     return refusal;
 }
 
@@ -228,9 +231,9 @@ static void begin_end(uint32_t rx_len, uint32_t tx_len)
         good_record(ours.state, rx_len, tx_len);
     if (one_in(2))
         ours.time[0] = below(64);
-    for (uint32_t k = 0; k < rx_len + 4; k++)
+    for (uint32_t k = 0; k < rx_len + BEYOND; k++)
         ours.rx[k] = (uint16_t)any_nchar();
-    for (uint32_t k = 0; k < tx_len + 4; k++)
+    for (uint32_t k = 0; k < tx_len + BEYOND; k++)
         ours.tx[k] = (uint16_t)(one_in(3) ? any_nchar() : k % 256);
     models = ours;
 }
