@@ -171,6 +171,7 @@ static void decoder_rows(void)
         {{4, 0, 0, 0, 2, 0, 128}, 1},
         {{5, 0, 0, 0, 0, 0, 0}, 0},
         {{5, 9, 0, 0, 0, 0, 0}, 1},
+        {{5, 0, 0, 0, 0, 1, 0}, 1},           /* no bit of its body came yet */
         {{6, 0, 0, 0, 1, 2, 0}, 1}};
     for (unsigned k = 0; k < sizeof rows / sizeof *rows; k++)
         decoder_refuses(rows[k].words, rows[k].expected);

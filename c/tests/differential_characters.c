@@ -12,6 +12,19 @@ struct tally characters_calls[3] = {
 
 static uint32_t encoder[NEFTOLEK_ENCODER_WORDS], decoder[NEFTOLEK_DECODER_WORDS];
 
+/* The model goes on from its own state; where the words were set from outside, it takes theirs. */
+static struct model_decoder model;
+static bool good; /* the words are a state */
+
+static void take_words(void) { good = decoder_of_words(decoder, &model); }
+
+static void fresh(void)
+{
+    neftolek_encoder_fresh(encoder);
+    neftolek_decoder_fresh(decoder);
+    take_words();
+}
+
 /* Both encoders; the bits, and their count 0 where it was refused. */
 static struct model_bits encode(uint32_t kind, uint32_t value)
 {
@@ -36,14 +49,13 @@ static struct model_bits encode(uint32_t kind, uint32_t value)
 static uint32_t decode(uint32_t bit)
 {
     struct tally *call = &characters_calls[bit > 1 ? TICK : BIT];
-    struct model_decoder d;
     struct model_token report = {NOTHING, 0};
     uint32_t state[NEFTOLEK_DECODER_WORDS], ours[2] = {77, 77}, models[2];
-    uint32_t refusal = decoder_of_words(decoder, &d) ? model_decoder_refusal(&d) : MODEL_STATE;
+    uint32_t refusal = good ? model_decoder_refusal(&model) : MODEL_STATE;
     memcpy(state, decoder, sizeof state);
     if (refusal == 0) {
-        report = bit > 1 ? model_decoder_tick(&d) : model_decoder_bit(&d, bit);
-        words_of_decoder(&d, state);
+        report = bit > 1 ? model_decoder_tick(&model) : model_decoder_bit(&model, bit);
+        words_of_decoder(&model, state);
     }
     models[0] = report.kind;
     models[1] = report.value;
@@ -85,8 +97,11 @@ static void damage(void)
         spoil(decoder, NEFTOLEK_DECODER_WORDS);
     else
         any_decoder();
-    if (decode(below(3)) != 0 || one_in(2))
+    take_words();
+    if (decode(below(3)) != 0 || one_in(2)) {
         memcpy(decoder, before, sizeof before);
+        take_words();
+    }
 }
 
 static struct model_bits any_token(void)
@@ -120,8 +135,7 @@ static void send(struct model_bits out)
 
 void characters_episode(void)
 {
-    neftolek_encoder_fresh(encoder);
-    neftolek_decoder_fresh(decoder);
+    fresh();
     ticks(below(3) * 6);
     send(encode(NEFTOLEK_NULL, 0));
     for (int k = 0; k < 60; k++) {
@@ -131,8 +145,7 @@ void characters_episode(void)
         if (encoder[0] > 1)
             neftolek_encoder_fresh(encoder);
         if (decoder[0] == 7 && one_in(2)) {
-            neftolek_decoder_fresh(decoder);
-            neftolek_encoder_fresh(encoder);
+            fresh();
             send(encode(NEFTOLEK_NULL, 0));
         }
     }

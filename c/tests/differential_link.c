@@ -238,6 +238,20 @@ static void begin_end(uint32_t rx_len, uint32_t tx_len)
     models = ours;
 }
 
+/* Fronts and lengths at the edges of what the sizes allow. */
+static void edge_stores(uint32_t rx_len, uint32_t tx_len)
+{
+    uint32_t *w = ours.state;
+    w[16] = rx_len - below(2);
+    w[17] = rx_len + 1 - below(3);
+    w[18] = tx_len - below(2);
+    w[19] = tx_len + 1 - below(3);
+    if (one_in(2))
+        w[16] = w[18] = 0;
+    if (one_in(2))
+        w[8] = 0;
+}
+
 /* A call on damaged words or with other sizes; the end is then as it was before, unless a call that tests all of it
  * accepted it. */
 static void damaged_call(uint32_t rx_len, uint32_t tx_len)
@@ -247,13 +261,16 @@ static void damaged_call(uint32_t rx_len, uint32_t tx_len)
     struct handed h = any_handed(call, rx_len, tx_len);
     memcpy(state, ours.state, sizeof state);
     memcpy(time, ours.time, sizeof time);
-    switch (below(4)) {
+    switch (below(5)) {
     case 0:
         h.rx_len = one_in(2) ? below(20) : ONE_OF(0, 8, 4097, below(4098));
         h.tx_len = one_in(2) ? tx_len : ONE_OF(0, 1, 4097, below(4098));
         break;
     case 1:
         spoil(ours.time, NEFTOLEK_TIME_WORDS);
+        break;
+    case 2:
+        edge_stores(rx_len, tx_len);
         break;
     default:
         spoil(ours.state, NEFTOLEK_LINK_WORDS);

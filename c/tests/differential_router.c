@@ -28,6 +28,16 @@ struct handed {
 
 static struct side ours, models;
 
+/* The model goes on from its own state; where the words were set from outside, it takes theirs. */
+static struct model_router router;
+static bool good; /* the words are a state */
+
+static void take_words(void)
+{
+    memcpy(models.state, ours.state, sizeof models.state);
+    good = router_of_words(models.state, &router);
+}
+
 static uint32_t call_ours(enum call call, struct side *s, struct handed h)
 {
     switch (call) {
@@ -44,33 +54,33 @@ static uint32_t call_ours(enum call call, struct side *s, struct handed h)
     }
 }
 
-static uint32_t refusal_of(enum call call, const struct model_router *r, struct handed h)
+static uint32_t refusal_of(enum call call, struct handed h)
 {
     switch (call) {
     case PUT:
-        return model_router_put_refusal(r, h.area_len, h.a, h.b);
+        return model_router_put_refusal(&router, h.area_len, h.a, h.b);
     case TAKE:
-        return model_router_take_refusal(r, h.area_len, h.a);
+        return model_router_take_refusal(&router, h.area_len, h.a);
     case RUN_ROUNDS:
-        return model_router_run_refusal(r, h.area_len, h.a);
+        return model_router_run_refusal(&router, h.area_len, h.a);
     default:
-        return model_row_refusal(r, h.a);
+        return model_row_refusal(&router, h.a);
     }
 }
 
-static void accept(enum call call, struct side *s, struct model_router *r, struct handed h)
+static void accept(enum call call, struct side *s, struct handed h)
 {
     struct model_places area = {s->area, h.area_len};
     struct model_ran ran;
     switch (call) {
     case PUT:
-        model_router_put(r, area, h.a, (uint16_t)h.b);
+        model_router_put(&router, area, h.a, (uint16_t)h.b);
         break;
     case TAKE:
-        s->out[0] = model_router_take(r, area, h.a);
+        s->out[0] = model_router_take(&router, area, h.a);
         break;
     case RUN_ROUNDS:
-        ran = model_router_run(r, area, s->table, h.a);
+        ran = model_router_run(&router, area, s->table, h.a);
         s->out[0] = ran.rounds;
         s->out[1] = ran.moved;
         s->out[2] = ran.errors;
@@ -82,17 +92,16 @@ static void accept(enum call call, struct side *s, struct model_router *r, struc
         s->out[0] = s->table[h.a];
         break;
     }
-    words_of_router(r, s->state);
+    words_of_router(&router, s->state);
 }
 
 static uint32_t call_model(enum call call, struct side *s, struct handed h)
 {
     static const unsigned out_words[] = {0, 1, 3, 0, 1};
-    struct model_router r;
-    uint32_t refusal = router_of_words(s->state, &r) ? refusal_of(call, &r, h) : MODEL_STATE;
+    uint32_t refusal = good ? refusal_of(call, h) : MODEL_STATE;
     memset(s->out, 0, out_words[call] * sizeof *s->out);
     if (refusal == 0)
-        accept(call, s, &r, h);
+        accept(call, s, h);
     return refusal;
 }
 
@@ -184,11 +193,12 @@ static void begin_router(uint32_t places)
         good_state(&r, places);
         words_of_router(&r, ours.state);
     }
-    for (int row = 32; row < 40; row++)
+    for (int row = 0; row < 40; row++) /* rows 0 to 31 are never read */
         ours.table[row] = any_row_value();
     for (uint32_t k = 0; k < 22 * places + BEYOND; k++)
         ours.area[k] = (uint16_t)any_router_nchar();
     models = ours;
+    take_words();
 }
 
 /* A call on damaged words or with another area; the state is then as it was before, unless a call that tests all of it
@@ -207,11 +217,11 @@ static void damaged_call(uint32_t area_len)
         uint32_t which = below(66);
         ours.state[which] = below(12);
     }
-    memcpy(models.state, ours.state, sizeof state);
+    take_words();
     if (make(call, h) == 0 && call <= RUN_ROUNDS && h.area_len == area_len)
         return;
     memcpy(ours.state, state, sizeof state);
-    memcpy(models.state, state, sizeof state);
+    take_words();
 }
 
 void router_episode(void)

@@ -114,7 +114,7 @@ bool decoder_of_words(const uint32_t words[NEFTOLEK_DECODER_WORDS], struct model
         load_data(words[6], d);
     if (d->phase == IN_CONTROL) {
         d->count = words[0] == 6;
-        d->body = words[5] & 1;
+        d->body = d->count && words[5];
     }
     words_of_decoder(d, again);
     return is_token(d->waiting) && memcmp(words, again, sizeof again) == 0;
