@@ -22,6 +22,7 @@ tools=$kit/on/$machine/toolchain
 loader=$tools/lib/ld-linux-x86-64.so.2
 emulator=$tools/bin/qemu-x86_64
 [ -e "$loader" ] || fail "the toolchain at $kit runs no programs on this machine, $machine"
+for word in $(env | sed -n 's/^\(QEMU_[A-Za-z0-9_]*\)=.*/\1/p'); do unset "$word"; done
 
 # The compiler that is taken where CC does not say: the machine's own on x86-64, where there is one.
 machine_compiler() {
