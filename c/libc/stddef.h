@@ -1,0 +1,13 @@
+/* For the toolchain's own compiler, which brings no headers: the part of the C library that programs here use. */
+#ifndef LIBC_STDDEF_H
+#define LIBC_STDDEF_H
+
+typedef __SIZE_TYPE__ size_t;
+
+#ifdef __cplusplus
+#define NULL 0
+#else
+#define NULL ((void *)0)
+#endif
+
+#endif

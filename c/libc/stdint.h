@@ -1,0 +1,12 @@
+#ifndef LIBC_STDINT_H
+#define LIBC_STDINT_H
+
+typedef __UINT8_TYPE__ uint8_t;
+typedef __UINT16_TYPE__ uint16_t;
+typedef __UINT32_TYPE__ uint32_t;
+typedef __UINT64_TYPE__ uint64_t;
+
+#define UINT32_C(n) n##U
+#define UINT64_C(n) n##UL
+
+#endif

@@ -1,0 +1,178 @@
+/* A plain model of document 01, written from the paper and independent of the proved code.
+ *
+ * The calls test nothing: they are what a bench would write without proofs, and the benchmark's baseline.
+ * What each call refuses stands apart, in the functions named .._refusal: 0, or the number of the first
+ * refusal that applies. A caller that wants the whole of document 01 asks for the refusal first. */
+#ifndef MODEL_H
+#define MODEL_H
+
+#include <stdbool.h>
+#include <stdint.h>
+
+enum {
+    MODEL_STATE = 1,
+    MODEL_STORE,
+    MODEL_PORT,
+    MODEL_ROW,
+    MODEL_CHAR,
+    MODEL_ROUNDS,
+    MODEL_STOPPED,
+    MODEL_NOTRUN,
+    MODEL_EMPTY,
+    MODEL_FULL
+};
+
+/* Characters on the wire */
+
+enum { MODEL_EOP = 256, MODEL_EEP = 257 };
+
+/* Tokens, and beside them what else a decoder reports. */
+enum model_kind { NOTHING, GOT_NULL, GOT_FCT, GOT_NCHAR, GOT_TIMECODE, PARITY_ERROR, ESCAPE_ERROR, DISCONNECT };
+
+struct model_token {
+    uint16_t kind;
+    uint16_t value;
+};
+
+/* First sent least significant. */
+struct model_bits {
+    uint16_t bits;
+    uint16_t count;
+};
+
+struct model_encoder {
+    bool odd; /* the ones in the last body are odd in number */
+};
+
+enum model_phase { FRESH, HUNTING, AT_PARITY, AT_FLAG, IN_DATA, IN_CONTROL, STOPPED };
+
+struct model_decoder {
+    uint8_t phase;
+    uint8_t ticks;  /* since the last bit */
+    uint8_t window; /* hunting: the last eight bits, the newest least significant */
+    uint8_t parity; /* at a flag: the parity bit before it */
+    uint8_t escape; /* an ESC stands before this character */
+    uint8_t count;  /* bits of the body so far */
+    uint8_t body;   /* the bits, first least significant */
+    uint8_t odd;    /* the ones in the previous body are odd in number */
+    struct model_token waiting;
+};
+
+struct model_bits model_encode(struct model_encoder *e, struct model_token t);
+struct model_token model_decoder_bit(struct model_decoder *d, bool bit);
+struct model_token model_decoder_tick(struct model_decoder *d);
+
+unsigned model_encode_refusal(struct model_token t);
+unsigned model_decoder_refusal(const struct model_decoder *d);
+
+/* Stores: what is kept of one, and its places, which the host lends. */
+
+struct model_store {
+    uint32_t front;
+    uint32_t length;
+};
+
+struct model_places {
+    uint16_t *at;
+    uint32_t size;
+};
+
+/* The link end */
+
+enum model_state { ERROR_RESET, ERROR_WAIT, READY, STARTED, CONNECTING, RUN };
+
+struct model_link {
+    uint8_t state, timer;
+    bool got_null, null_sent;
+    bool disabled, start, autostart;
+    uint8_t held, given;
+    bool stored_data, sent_data, taken_data, put_data; /* the last such N-Char was data */
+    bool discarding;
+    bool offered;
+    uint8_t code; /* the waiting Time-Code, 0 where none is offered */
+    struct model_store rx, tx;
+};
+
+struct model_time {
+    uint8_t count;
+    bool ticked; /* the last Time-Code gave a tick out */
+};
+
+struct model_receipt {
+    uint32_t discarded;
+    bool tick;
+};
+
+struct model_dispatch {
+    uint32_t discarded;
+    struct model_token sent;
+};
+
+/* Each answers how many of its host's N-Chars it discarded; take answers the N-Char. */
+uint32_t model_link_tick(struct model_link *l, struct model_places rx, struct model_places tx);
+uint32_t model_link_fault(struct model_link *l, struct model_places rx, struct model_places tx, enum model_kind fault);
+uint32_t model_link_control(struct model_link *l, struct model_places rx, struct model_places tx, bool disabled,
+                            bool start, bool autostart);
+uint32_t model_link_reset(struct model_link *l, struct model_places rx);
+struct model_receipt model_link_receive(struct model_link *l, struct model_places rx, struct model_places tx,
+                                        struct model_time *time, struct model_token t);
+struct model_dispatch model_link_send(struct model_link *l, struct model_places rx, struct model_places tx);
+uint32_t model_link_put(struct model_link *l, struct model_places tx, uint16_t n);
+uint16_t model_link_take(struct model_link *l, struct model_places rx);
+void model_link_offer(struct model_link *l, uint8_t code);
+
+/* Tick, fault, control, send and reset. */
+unsigned model_link_refusal(const struct model_link *l, uint32_t rx_size, uint32_t tx_size);
+unsigned model_receive_refusal(const struct model_link *l, uint32_t rx_size, uint32_t tx_size,
+                               const struct model_time *time, struct model_token t);
+unsigned model_put_refusal(const struct model_link *l, uint32_t tx_size, uint32_t n);
+unsigned model_take_refusal(const struct model_link *l, uint32_t rx_size);
+unsigned model_offer_refusal(const struct model_link *l);
+
+/* The router */
+
+enum { MODEL_PORTS = 11, MODEL_ROWS = 256 };
+
+#define MODEL_INVALID_ROW UINT32_C(0x80000000)
+
+enum model_mode { IDLE, WAITING, ROUTED, SPILLING };
+
+struct model_input {
+    uint8_t mode;
+    bool high;
+    uint16_t ports;  /* waiting: bit p wants port p */
+    uint32_t output; /* routed */
+};
+
+struct model_output {
+    bool owned;
+    uint32_t owner;
+    uint32_t last; /* the last granted input */
+};
+
+struct model_router {
+    struct model_input inputs[MODEL_PORTS];
+    struct model_output outputs[MODEL_PORTS];
+    struct model_store in[MODEL_PORTS];
+    struct model_store out[MODEL_PORTS];
+};
+
+struct model_ran {
+    uint32_t rounds, moved, errors;
+};
+
+/* The area has 22 equal stores: the eleven inputs, then the eleven outputs. */
+void model_router_fresh(struct model_router *r);
+void model_table_fresh(uint32_t table[MODEL_ROWS]);
+void model_router_put(struct model_router *r, struct model_places area, unsigned port, uint16_t n);
+uint16_t model_router_take(struct model_router *r, struct model_places area, unsigned port);
+struct model_ran model_router_run(struct model_router *r, struct model_places area, const uint32_t table[MODEL_ROWS],
+                                  unsigned limit);
+void model_row_write(uint32_t table[MODEL_ROWS], unsigned row, uint32_t value);
+
+unsigned model_router_put_refusal(const struct model_router *r, uint32_t area_size, uint32_t port, uint32_t n);
+unsigned model_router_take_refusal(const struct model_router *r, uint32_t area_size, uint32_t port);
+unsigned model_router_run_refusal(const struct model_router *r, uint32_t area_size, uint32_t limit);
+unsigned model_row_refusal(const struct model_router *r, uint32_t row);
+
+#endif
