@@ -199,6 +199,16 @@ uint32_t neftolek_router_write_row(const uint32_t state[NEFTOLEK_ROUTER_WORDS], 
 uint32_t neftolek_router_read_row(const uint32_t state[NEFTOLEK_ROUTER_WORDS],
                                   const uint32_t table[NEFTOLEK_TABLE_ROWS], uint32_t row, uint32_t out[1]);
 
+/* What is still held through a port, for logout. out: the input's mode (0 idle, 1 waiting, 2 routed, 3 spilling), the
+ * set of ports that it waits for, whether at high priority, the output that it is routed to, how many N-Chars wait there;
+ * whether the output is held (0 or 1), by which input, how many N-Chars wait there; the set of inputs that wait for this
+ * output, the set of inputs with N-Chars waiting, and whether nothing is held (0 or 1). In a set bit p is port p.
+ * Refuses: STATE, PORT.
+ *
+ *     if (neftolek_router_still_held(router, 1, out) == 0 && out[10] && out[9] == 0)
+ *         what leaves port 1 from here on was put from here on */
+uint32_t neftolek_router_still_held(const uint32_t state[NEFTOLEK_ROUTER_WORDS], uint32_t port, uint32_t out[11]);
+
 #ifdef __cplusplus
 }
 #endif

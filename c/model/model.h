@@ -174,5 +174,10 @@ unsigned model_router_put_refusal(const struct model_router *r, uint32_t area_si
 unsigned model_router_take_refusal(const struct model_router *r, uint32_t area_size, uint32_t port);
 unsigned model_router_run_refusal(const struct model_router *r, uint32_t area_size, uint32_t limit);
 unsigned model_row_refusal(const struct model_router *r, uint32_t row);
+unsigned model_held_refusal(const struct model_router *r, uint32_t port);
+
+/* What is still held through a port: its input's mode, wanted ports, high priority, output and length; whether its output
+ * is owned, the owner, its length; the inputs that wait for it, those that hold N-Chars, and whether nothing is held. */
+void model_router_held(const struct model_router *r, unsigned port, uint32_t held[11]);
 
 #endif

@@ -161,6 +161,28 @@ struct model_ran model_router_run(struct model_router *r, struct model_places ar
     return ran;
 }
 
+void model_router_held(const struct model_router *r, unsigned port, uint32_t held[11])
+{
+    const struct model_input *in = &r->inputs[port];
+    const struct model_output *out = &r->outputs[port];
+    uint32_t wanted = 0, unread = 0;
+    for (unsigned i = 0; i < MODEL_PORTS; i++) {
+        wanted |= (uint32_t)(r->inputs[i].mode == WAITING && r->inputs[i].ports >> port & 1) << i;
+        unread |= (uint32_t)(r->in[i].length > 0) << i;
+    }
+    held[0] = in->mode;
+    held[1] = in->mode == WAITING ? in->ports : 0;
+    held[2] = in->mode == WAITING && in->high;
+    held[3] = in->mode == ROUTED ? in->output : 0;
+    held[4] = r->in[port].length;
+    held[5] = out->owned;
+    held[6] = out->owned ? out->owner : 0;
+    held[7] = r->out[port].length;
+    held[8] = wanted;
+    held[9] = unread;
+    held[10] = in->mode == IDLE && held[4] == 0 && !out->owned && held[7] == 0 && wanted == 0;
+}
+
 /* The refusals. */
 
 static bool bad_input(const struct model_router *r, unsigned i)
@@ -235,4 +257,11 @@ unsigned model_row_refusal(const struct model_router *r, uint32_t row)
     if (bad_ports(r))
         return MODEL_STATE;
     return row < 32 || row > 255 ? MODEL_ROW : 0;
+}
+
+unsigned model_held_refusal(const struct model_router *r, uint32_t port)
+{
+    if (bad_ports(r))
+        return MODEL_STATE;
+    return port > 10 ? MODEL_PORT : 0;
 }

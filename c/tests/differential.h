@@ -39,7 +39,7 @@ void characters_episode(void);
 void link_episode(void);
 void router_episode(void);
 
-extern struct tally characters_calls[3], link_calls[9], router_calls[5];
+extern struct tally characters_calls[3], link_calls[9], router_calls[6];
 
 /* The token that a kind and a value name; kind NOTHING where they name none. */
 struct model_token token_of(uint32_t kind, uint32_t value);

@@ -3,22 +3,23 @@
 
 #include <string.h>
 
-enum call { PUT, TAKE, RUN_ROUNDS, WRITE_ROW, READ_ROW };
+enum call { PUT, TAKE, RUN_ROUNDS, WRITE_ROW, READ_ROW, STILL_HELD, CALLS };
 
 #define LENT (1 | 1 << MODEL_STATE | 1 << MODEL_STORE)
 
-struct tally router_calls[5] = {
+struct tally router_calls[6] = {
     {"router_put", LENT | 1 << MODEL_PORT | 1 << MODEL_CHAR | 1 << MODEL_FULL, {0}},
     {"router_take", LENT | 1 << MODEL_PORT | 1 << MODEL_EMPTY, {0}},
     {"router_run", LENT | 1 << MODEL_ROUNDS, {0}},
     {"router_write_row", 1 | 1 << MODEL_STATE | 1 << MODEL_ROW, {0}},
-    {"router_read_row", 1 | 1 << MODEL_STATE | 1 << MODEL_ROW, {0}}};
+    {"router_read_row", 1 | 1 << MODEL_STATE | 1 << MODEL_ROW, {0}},
+    {"router_still_held", 1 | 1 << MODEL_STATE | 1 << MODEL_PORT, {0}}};
 
 /* Places past the end of the area are compared too. */
-enum { BEYOND = 4, MOST = 22 * 1025 + BEYOND };
+enum { BEYOND = 4, MOST = 22 * 1025 + BEYOND, OUT = 11 };
 
 struct side {
-    uint32_t state[NEFTOLEK_ROUTER_WORDS], table[NEFTOLEK_TABLE_ROWS], out[3];
+    uint32_t state[NEFTOLEK_ROUTER_WORDS], table[NEFTOLEK_TABLE_ROWS], out[OUT];
     uint16_t area[MOST];
 };
 
@@ -49,8 +50,10 @@ static uint32_t call_ours(enum call call, struct side *s, struct handed h)
         return neftolek_router_run(s->state, s->area, h.area_len, s->table, h.a, s->out);
     case WRITE_ROW:
         return neftolek_router_write_row(s->state, s->table, h.a, h.b);
-    default:
+    case READ_ROW:
         return neftolek_router_read_row(s->state, s->table, h.a, s->out);
+    default:
+        return neftolek_router_still_held(s->state, h.a, s->out);
     }
 }
 
@@ -63,6 +66,8 @@ static uint32_t refusal_of(enum call call, struct handed h)
         return model_router_take_refusal(&router, h.area_len, h.a);
     case RUN_ROUNDS:
         return model_router_run_refusal(&router, h.area_len, h.a);
+    case STILL_HELD:
+        return model_held_refusal(&router, h.a);
     default:
         return model_row_refusal(&router, h.a);
     }
@@ -91,13 +96,15 @@ static void accept(enum call call, struct side *s, struct handed h)
     case READ_ROW:
         s->out[0] = s->table[h.a];
         break;
+    default:
+        model_router_held(&router, h.a, s->out);
     }
     words_of_router(&router, s->state);
 }
 
 static uint32_t call_model(enum call call, struct side *s, struct handed h)
 {
-    static const unsigned out_words[] = {0, 1, 3, 0, 1};
+    static const unsigned out_words[] = {0, 1, 3, 0, 1, OUT};
     uint32_t refusal = good ? refusal_of(call, h) : MODEL_STATE;
     memset(s->out, 0, out_words[call] * sizeof *s->out);
     if (refusal == 0)
@@ -109,7 +116,8 @@ static uint32_t make(enum call call, struct handed h)
 {
     struct tally *t = &router_calls[call];
     uint32_t refusal;
-    ours.out[0] = ours.out[1] = ours.out[2] = models.out[0] = models.out[1] = models.out[2] = 77;
+    for (int k = 0; k < OUT; k++)
+        ours.out[k] = models.out[k] = 77;
     refusal = call_ours(call, &ours, h);
     answered(t, refusal, call_model(call, &models, h));
     compare(t, "out", ours.out, models.out, sizeof ours.out);
@@ -129,7 +137,7 @@ static uint32_t any_router_nchar(void)
 static enum call any_call(void)
 {
     uint32_t r = below(100);
-    return r < 60 ? PUT : r < 80 ? TAKE : r < 94 ? RUN_ROUNDS : r < 98 ? WRITE_ROW : READ_ROW;
+    return r < 60 ? PUT : r < 80 ? TAKE : r < 94 ? RUN_ROUNDS : r < 97 ? WRITE_ROW : r < 98 ? READ_ROW : STILL_HELD;
 }
 
 /* Rows 32 to 39 are the ones that packets use. */
@@ -146,6 +154,7 @@ static struct handed any_handed(enum call call, uint32_t area_len)
     switch (call) {
     case PUT:
     case TAKE:
+    case STILL_HELD:
         h.a = one_in(200) ? any_word() : below(11);
         h.b = any_router_nchar();
         break;
@@ -206,7 +215,7 @@ static void begin_router(uint32_t places)
 static void damaged_call(uint32_t area_len)
 {
     uint32_t state[NEFTOLEK_ROUTER_WORDS];
-    enum call call = (enum call)below(5);
+    enum call call = (enum call)below(CALLS);
     struct handed h = any_handed(call, area_len);
     memcpy(state, ours.state, sizeof state);
     if (one_in(4))

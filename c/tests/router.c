@@ -5,7 +5,7 @@
 enum { PLACES = 9, AREA = NEFTOLEK_ROUTER_STORES * PLACES };
 
 struct router {
-    uint32_t state[NEFTOLEK_ROUTER_WORDS], table[NEFTOLEK_TABLE_ROWS], out[3];
+    uint32_t state[NEFTOLEK_ROUTER_WORDS], table[NEFTOLEK_TABLE_ROWS], out[11];
     uint16_t area[AREA];
 };
 
@@ -124,6 +124,31 @@ static void full_output(void)
     runs(&r, 10000, 2, 1, 0);
 }
 
+static void holds(struct router *r, uint32_t port, const uint32_t held[11])
+{
+    SAME(neftolek_router_still_held(r->state, port, r->out), 0);
+    SAME_BYTES(r->out, held, sizeof r->out);
+}
+
+/* A stops in the middle of a packet from port 1 to port 3, and B's packet from port 2 waits: who holds what. */
+static void still_held(void)
+{
+    static const uint32_t routed[11] = {2, 0, 0, 3, 0, 0, 0, 0, 0, 1 << 2, 0};
+    static const uint32_t waiting[11] = {1, 1 << 3, 0, 0, 2, 0, 0, 0, 0, 1 << 2, 0};
+    static const uint32_t owned[11] = {0, 0, 0, 0, 0, 1, 1, 1, 1 << 2, 1 << 2, 0};
+    static const uint32_t nothing[11] = {0, 0, 0, 0, 0, 0, 0, 0, 0, 1 << 2, 1};
+    struct router r;
+    fresh(&r);
+    SAME(neftolek_router_put(r.state, r.area, AREA, 1, 3), 0);
+    SAME(neftolek_router_put(r.state, r.area, AREA, 1, 'a'), 0);
+    puts_packet(&r, 2, "\3b", 2);
+    runs(&r, 10, 2, 1, 0);
+    holds(&r, 1, routed);
+    holds(&r, 2, waiting);
+    holds(&r, 3, owned);
+    holds(&r, 4, nothing);
+}
+
 int main(void)
 {
     one_packet();
@@ -131,5 +156,6 @@ int main(void)
     rows();
     priority();
     full_output();
+    still_held();
     return verdict("router");
 }

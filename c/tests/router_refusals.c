@@ -19,9 +19,11 @@ enum {
     WORDS
 };
 
-enum call { PUT, TAKE, RUN, WRITE_ROW, READ_ROW, CALLS };
+enum call { PUT, TAKE, RUN, WRITE_ROW, READ_ROW, STILL_HELD, CALLS };
 
-static const unsigned out_words[CALLS] = {0, 1, 3, 0, 1};
+enum { OUT = 11 };
+
+static const unsigned out_words[CALLS] = {0, 1, 3, 0, 1, OUT};
 
 static uint32_t make(enum call call, uint32_t *w, uint32_t *table, uint32_t *out)
 {
@@ -34,17 +36,20 @@ static uint32_t make(enum call call, uint32_t *w, uint32_t *table, uint32_t *out
         return neftolek_router_run(w + STATE, area, w[AREA_LEN], table, w[LIMIT], out);
     case WRITE_ROW:
         return neftolek_router_write_row(w + STATE, table, w[ROW], 4);
-    default:
+    case READ_ROW:
         return neftolek_router_read_row(w + STATE, table, w[ROW], out);
+    default:
+        return neftolek_router_still_held(w + STATE, w[PORT], out);
     }
 }
 
 /* Which calls a row is for. */
 enum {
+    HELD = 1 << STILL_HELD,
     PORTS = 1 << PUT | 1 << TAKE,
     LENT_AREA = PORTS | 1 << RUN,
     ROWS = 1 << WRITE_ROW | 1 << READ_ROW,
-    ALL = LENT_AREA | ROWS
+    ALL = LENT_AREA | ROWS | HELD
 };
 
 /* A row: the calls, what they answer, and what is changed of a good state, through END. */
@@ -90,17 +95,18 @@ static const struct {
     {LENT_AREA, 2, {{AREA_LEN, 22 * 1025}}},
     {LENT_AREA, 1, {{AREA_LEN, 0}, {INPUT_1, 4}}},
     {LENT_AREA, 2, {{AREA_LEN, AREA - 22}, {STORE_IN_3, 9}}},
-    /* 1 STATE: tests that need a size; row calls are lent no area */
+    /* 1 STATE: tests that need a size; row calls and what is held are lent no area */
     {LENT_AREA, 1, {{STORE_IN_3, PLACES}, {PORT, 11}}},
     {LENT_AREA, 1, {{STORE_IN_3 + 1, PLACES + 1}, {LIMIT, 10001}}},
     {LENT_AREA, 1, {{STORE_OUT_3, PLACES}}},
     {LENT_AREA, 1, {{STORE_OUT_10 + 1, PLACES + 1}}},
     {LENT_AREA, 1, {{STORE_OUT_10, 0xffffffff}}},
-    {ROWS, 0, {{STORE_OUT_3, 5000}}},
+    {ROWS | HELD, 0, {{STORE_OUT_3, 5000}}},
     /* 3 PORT, 4 ROW, 5 CHAR, 6 ROUNDS */
-    {PORTS, 0, {{PORT, 10}, {STORE_OUT_10 + 1, 1}}},
-    {PORTS, 3, {{PORT, 11}, {NCHAR, 999}}},
-    {PORTS, 3, {{PORT, 0xffffffff}}},
+    {PORTS | HELD, 0, {{PORT, 10}, {STORE_OUT_10 + 1, 1}}},
+    {PORTS | HELD, 3, {{PORT, 11}, {NCHAR, 999}}},
+    {PORTS | HELD, 3, {{PORT, 0xffffffff}}},
+    {HELD, 1, {{PORT, 11}, {INPUT_1, 4}}},
     {ROWS, 4, {{ROW, 31}}},
     {ROWS, 0, {{ROW, 32}}},
     {ROWS, 0, {{ROW, 255}}},
@@ -134,7 +140,9 @@ static void refuses(unsigned row, enum call call, const uint32_t *before)
 {
     enum { UNTOUCHED = 77 };
     uint32_t table[NEFTOLEK_TABLE_ROWS], fresh[NEFTOLEK_TABLE_ROWS];
-    uint32_t words[WORDS], out[3] = {UNTOUCHED, UNTOUCHED, UNTOUCHED}, got;
+    uint32_t words[WORDS], out[OUT], got;
+    for (unsigned k = 0; k < OUT; k++)
+        out[k] = UNTOUCHED;
     neftolek_table_fresh(table);
     neftolek_table_fresh(fresh);
     memcpy(words, before, sizeof words);
@@ -142,7 +150,7 @@ static void refuses(unsigned row, enum call call, const uint32_t *before)
     if (got != rows[row].expected)
         printf("row %u, call %d: ", row, call);
     SAME(got, rows[row].expected);
-    for (unsigned k = 0; k < 3; k++)
+    for (unsigned k = 0; k < OUT; k++)
         if (k >= out_words[call])
             SAME(out[k], UNTOUCHED);
         else if (rows[row].expected != 0)

@@ -3,7 +3,7 @@
 use mathlib.Core.Path.{_≡_}
 use mathlib.Core.Bool.{Bool, true, false}
 use mathlib.Core.List.{List}
-use Prim.Native.Nat.{ℕ, _<_}
+use Prim.Native.Nat.{ℕ, _+_, _<_}
 use Rattle.vocabulary.specs.NChars.{isEnd}
 use Rattle.table.specs.Headings.{heading}
 use Rattle.table.specs.declared.Direction.{Direction}
@@ -12,7 +12,7 @@ use Rattle.ports.specs.Ports.{inputStore, outputStore}
 use Rattle.ports.specs.declared.Mode.{Mode}
 use Rattle.ports.specs.declared.Mode.the-variants.{Idle, Routed, Spilling}
 use Rattle.ports.specs.declared.Owner.the-variants.{By}
-use Rattle.rounds.specs.Acts.{Acts}
+use Rattle.rounds.specs.Acts.{Acts, Tally}
 use Rattle.rounds.specs.Addresses.{waits}
 use Rattle.rounds.specs.Grants.{isFree, waitsFor}
 use Rattle.rounds.specs.Moves.{frees, carries}
@@ -72,3 +72,16 @@ module _ {X Y : Type 0} (M : Acts X) (N : Acts Y) (R : X → Y → Type 0) (tabl
         R (M .dropFront x (inputStore i)) (N .dropFront y (inputStore i))
     pub rests : (x : X) (y : Y) (i : ℕ) → R x y → Stands M x i Spilling → isEnd (frontIn M x i) ≡ true →
         R (M .setMode (M .dropFront x (inputStore i)) i Idle) (N .setMode (N .dropFront y (inputStore i)) i Idle)
+
+-- the same counts but for what was counted before
+pub record Counted : Type 0 where
+  pub rounds : ℕ
+  pub moved : ℕ
+  pub errors : ℕ
+
+-- ports that stand alike, with counts that differ by what was counted before
+pub record Level {X Y : Type 0} (R : X → Y → Type 0) (c : Counted) (t : Tally X) (u : Tally Y) : Type 0 where
+  pub now : R (t .now) (u .now)
+  pub rounds : t .rounds ≡ c .rounds + u .rounds
+  pub moved : t .moved ≡ c .moved + u .moved
+  pub errors : t .errors ≡ c .errors + u .errors

@@ -15,7 +15,7 @@ use Rattle.rounds.specs.Acts.{Acts, Tally}
 use Rattle.rounds.specs.Addresses.{waits}
 use Rattle.rounds.specs.Moves.{frees, carries}
 use Rattle.rounds.specs.Rounds.{begun, rounds}
-use Rattle.lists.specs.Alike.{Level}
+use Rattle.lists.proofs.DeedLaws.{Level}
 use Rattle.lists.proofs.DeedLaws.{frontIn, grant, Stands, Moves, Taken, Shows, Deeds}
 use Rattle.lists.proofs.WalkLaws.{rounds-level}
 

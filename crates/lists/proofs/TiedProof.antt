@@ -18,7 +18,7 @@ use Rattle.router.specs.Refusals.{runRefusal}
 use Rattle.router.specs.Calls.{Run, told, runs}
 use Rattle.router.specs.Reached.{Reached, run}
 use Rattle.router.proofs.ReachedProof.{reached-keeps, never-spoiled, mark-is-exact}
-use Rattle.lists.specs.Alike.{Counted, Level}
+use Rattle.lists.proofs.DeedLaws.{Counted, Level}
 use Rattle.lists.specs.Tied.{listsOf, Tied, RingsAreLists}
 use Rattle.lists.specs.OneByOne.{added, OneByOne, RunsOneByOne}
 use Rattle.lists.proofs.WalkLaws.{rounds-level}

@@ -22,7 +22,7 @@ use Rattle.rounds.specs.Grants.{chosen, granted, grantsTo, grants, part2}
 use Rattle.rounds.specs.Moves.{moves, movesOne, spills, spillsOne, ifSending, sends, part3}
 use Rattle.rounds.specs.Rounds.{round, rounds}
 use Rattle.rounds.proofs.KeepLaws.{first-fits}
-use Rattle.lists.specs.Alike.{Counted, Level}
+use Rattle.lists.proofs.DeedLaws.{Counted, Level}
 use Rattle.lists.proofs.DeedLaws.{frontIn, Stands, Shows, Deeds}
 
 -- within a round the marks are the same too
