@@ -4,7 +4,11 @@ ghost use Rattle.router_words.specs.HeldCalls.{heldLeft};
 use router_words::held;
 
 #[no_mangle]
-pub extern "C" fn neftolek_router_still_held(state: &[u32; 110], port: u32, out: &mut [u32; 11]) -> u32
+pub extern "C" fn neftolek_router_still_held(
+    state: &[u32; 110],
+    port: u32,
+    out: &mut [u32; 11],
+) -> u32
     ensures { λ r. ⌜ record { refusal = r; out = now (out .exit) } ≡ heldLeft (now (state .entry)) port ⌝ }
 {
     let s = router_words::loaded(state);

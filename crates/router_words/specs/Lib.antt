@@ -1,2 +1,3 @@
 pub mod RouterWords
 pub mod RouterCalls
+pub mod HeldCalls

@@ -20,5 +20,17 @@ pub fn held_words(a: StillHeld) -> [u32; 11]
     let wanted = a.wanted as u32;
     let unread = a.unread as u32;
     let nothing = words::truth_word(a.nothing);
-    [number, wished, high, to, unmoved, held, by, untaken, wanted, unread, nothing]
+    [
+        number,
+        wished,
+        high,
+        to,
+        unmoved,
+        held,
+        by,
+        untaken,
+        wanted,
+        unread,
+        nothing,
+    ]
 }

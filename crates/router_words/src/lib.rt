@@ -12,6 +12,8 @@ use ports::Router;
 use ports::Wanted;
 use store::Store;
 
+pub mod held;
+
 fn mode_words(m: Mode) -> [u32; 3]
     ensures { λ r. ⌜ r ≡ modeWords m ⌝ }
 {
