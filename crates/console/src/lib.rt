@@ -2,4 +2,5 @@
 // those that are no state are refused as STATE.
 pub mod character_calls;
 pub mod held_calls;
+pub mod link_calls;
 pub mod router_calls;

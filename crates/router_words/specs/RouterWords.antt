@@ -8,7 +8,7 @@ use mathlib.Core.List.{List, [], _∷_}
 use lib.ListN.{length}
 use lib.Dec.{eqb, ltb}
 use Rattle.vocabulary.specs.Choice.{pick}
-use Rattle.words.specs.Words.{wordAt, truthWord, truth, narrow, same}
+use Rattle.words.specs.Words.{wordAt, truthWord, truth, narrow, same, storeWords, storeOf}
 use Rattle.store.specs.declared.Store.{Store}
 use Rattle.ports.specs.Ports.{modeAt, outputAt, storeAt}
 use Rattle.ports.specs.declared.Wanted.{Wanted}
@@ -35,9 +35,6 @@ modeWords Spilling = 3 ∷ 0 ∷ 0 ∷ []
 abbrev pub outputWords : Owner → ℕ → List ℕ
 outputWords Free last = 0 ∷ 0 ∷ narrow last ∷ []
 outputWords (By i) last = 1 ∷ narrow i ∷ narrow last ∷ []
-
-abbrev pub storeWords : Store → List ℕ
-storeWords s = narrow (s .front) ∷ narrow (s .len) ∷ []
 
 -- inputs from word 0 on, outputs from 33, stores from 66
 abbrev pub routerWord : Router → ℕ → ℕ
@@ -69,8 +66,8 @@ unfoldable pub outputIn : List ℕ → ℕ → Output
 outputIn words p =
     record { owner = ownerOf (wordAt words (3 * p + 33)) (wordAt words (3 * p + 34)); last = wordAt words (3 * p + 35) }
 
-unfoldable pub storeIn : List ℕ → ℕ → Store
-storeIn words k = record { front = wordAt words (2 * k + 66); len = wordAt words (2 * k + 67) }
+abbrev pub storeIn : List ℕ → ℕ → Store
+storeIn words k = storeOf (wordAt words (2 * k + 66)) (wordAt words (2 * k + 67))
 
 unfoldable pub routerOf : List ℕ → Router
 routerOf words =

@@ -1,8 +1,8 @@
 // The 110 words of a router.
 ghost use mathlib.Core.Path.{_≡_};
 ghost use Prim.Native.Nat.{_<_};
-ghost use Rattle.words.specs.Words.{wordAt, same};
-ghost use Rattle.router_words.specs.RouterWords.{listed, modeWords, outputWords, storeWords, routerWord, routerWords};
+ghost use Rattle.words.specs.Words.{wordAt, same, storeWords};
+ghost use Rattle.router_words.specs.RouterWords.{listed, modeWords, outputWords, routerWord, routerWords};
 ghost use Rattle.router_words.specs.RouterWords.{wantedOf, modeOf, ownerOf, inputIn, outputIn, storeIn, routerOf};
 use ports::Input;
 use ports::Mode;
@@ -45,14 +45,6 @@ fn output_words(owner: Owner, last: usize) -> [u32; 3]
     }
 }
 
-fn store_words(s: Store) -> [u32; 2]
-    ensures { λ r. ⌜ r ≡ storeWords s ⌝ }
-{
-    let front = words::narrow(s.front);
-    let len = words::narrow(s.len);
-    [front, len]
-}
-
 fn mode_word(m: Mode, i: usize) -> u32
     requires { ⌜ i < 3 ⌝ }
     ensures { λ r. ⌜ r ≡ wordAt (modeWords m) i ⌝ }
@@ -74,7 +66,7 @@ fn store_word(s: Store, i: usize) -> u32
     requires { ⌜ i < 2 ⌝ }
     ensures { λ r. ⌜ r ≡ wordAt (storeWords s) i ⌝ }
 {
-    let row = store_words(s);
+    let row = words::store_words(s);
     row[i]
 }
 
@@ -157,9 +149,7 @@ fn store_in(words: &[u32; 110], k: usize) -> Store
     ensures { λ r. ⌜ r ≡ storeIn (now (words .entry)) k ⌝ }
 {
     let at = 2 * k;
-    let front = words::wide(words[at + 66]);
-    let len = words::wide(words[at + 67]);
-    Store { front, len }
+    words::store_of(words[at + 66], words[at + 67])
 }
 
 fn inputs_in(words: &[u32; 110]) -> [Input; 11]

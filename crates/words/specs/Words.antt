@@ -8,6 +8,7 @@ use mathlib.Core.List.{List, [], _∷_}
 use lib.ListN.{getD}
 use lib.Dec.{eqb}
 use Rattle.vocabulary.specs.Choice.{pick}
+use Rattle.store.specs.declared.Store.{Store}
 
 abbrev pub wordAt : List ℕ → ℕ → ℕ
 wordAt words k = getD words k 0
@@ -31,6 +32,13 @@ same [] [] = true
 same [] (w ∷ ws) = false
 same (v ∷ vs) [] = false
 same (v ∷ vs) (w ∷ ws) = eqb v w && same vs ws
+
+-- the two words of a store's record, and the record that two words load
+abbrev pub storeWords : Store → List ℕ
+storeWords s = narrow (s .front) ∷ narrow (s .len) ∷ []
+
+unfoldable pub storeOf : ℕ → ℕ → Store
+storeOf front len = record { front = front; len = len }
 
 -- what a call on a state of words leaves: the refusal, the words, and the other answers, zero when it is refused
 pub record Left : Type 0 where

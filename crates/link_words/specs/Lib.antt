@@ -1,0 +1,2 @@
+pub mod LinkWords
+pub mod LinkCalls

@@ -1,0 +1,149 @@
+-- What each call on the words of a link end leaves: what the end's own call leaves of the end that they load, saved; or
+-- everything as it was, where they are no end.
+-- Assumes nothing.
+use Prim.Native.Nat.{ℕ}
+use mathlib.Core.Path.{_≡_}
+use mathlib.Core.Bool.{_&&_}
+use mathlib.Core.List.{List, [], _∷_}
+use lib.ListN.{length}
+use lib.Dec.{eqb}
+use Rattle.vocabulary.specs.Choice.{pick}
+use Rattle.vocabulary.specs.Refusals.{STATE, number}
+use Rattle.words.specs.Words.{Left, Stays, truthWord, truth, narrow}
+use Rattle.words.specs.Arguments.{fitted, noToken, tokenOf}
+use Rattle.time.specs.Time.{freshTime}
+use Rattle.link.specs.Ends.{End}
+use Rattle.link.specs.Send.{sentKind, sentValue}
+use Rattle.link.specs.Calls.{Outcome, tickOutcome, faultOutcome, controlOutcome, resetOutcome, sendOutcome, receiveOutcome}
+use Rattle.link.specs.Calls.{putAnswer, putPlacesAfter, takeAnswer, offerAnswer}
+use Rattle.link.specs.declared.Controls.{Controls}
+use Rattle.link.specs.declared.FaultKind.the-variants.{ParityFault, EscapeFault, DisconnectFault}
+use Rattle.link.specs.declared.Answer.{Answer}
+use Rattle.link.specs.declared.Dispatch.{Dispatch}
+use Rattle.link.specs.declared.Receipt.{Receipt}
+use Rattle.link.specs.declared.Taken.{Taken}
+use Rattle.link_words.specs.LinkWords.{linkWords, linkOf, isLink, timeWords, timeOf, isTime}
+
+-- `places`: of the store that is lent to be changed
+pub record LinkLeft : Type 0 where
+  pub refusal : ℕ
+  pub state : List ℕ
+  pub places : List ℕ
+  pub out : List ℕ
+
+-- `zeros`: the other answers of a call that is refused
+unfoldable pub noLink : List ℕ → List ℕ → List ℕ → LinkLeft
+noLink words places zeros = record { refusal = number STATE; state = words; places = places; out = zeros }
+
+unfoldable pub endOf : List ℕ → List ℕ → List ℕ → End
+endOf words rx tx = record { link = linkOf words; rx = rx; tx = tx }
+
+unfoldable pub answerLeft : Outcome Answer → LinkLeft
+answerLeft o =
+    record {
+      refusal = o .answer .refusal;
+      state = linkWords (o .answer .link);
+      places = o .rx;
+      out = narrow (o .answer .discarded) ∷ [];
+    }
+
+unfoldable pub tickLeft : List ℕ → List ℕ → List ℕ → LinkLeft
+tickLeft words rx tx = pick (isLink words) (answerLeft (tickOutcome (endOf words rx tx))) (noLink words rx (0 ∷ []))
+
+unfoldable pub resetLeft : List ℕ → List ℕ → List ℕ → LinkLeft
+resetLeft words rx tx = pick (isLink words) (answerLeft (resetOutcome (endOf words rx tx))) (noLink words rx (0 ∷ []))
+
+-- A fault by the number of its report. A number that no fault has is refused as a received token that is none: CHAR, in its
+-- place in the order.
+unfoldable pub asAnswer : Outcome Receipt → Outcome Answer
+asAnswer o =
+    record {
+      answer = record { refusal = o .answer .refusal; link = o .answer .link; discarded = o .answer .discarded };
+      rx = o .rx;
+    }
+
+unfoldable pub numberedFault : End → ℕ → Outcome Answer
+numberedFault e kind =
+    pick (eqb kind 5) (faultOutcome e ParityFault)
+    (pick (eqb kind 6) (faultOutcome e EscapeFault)
+    (pick (eqb kind 7) (faultOutcome e DisconnectFault) (asAnswer (receiveOutcome e freshTime noToken))))
+
+unfoldable pub faultLeft : List ℕ → List ℕ → List ℕ → ℕ → LinkLeft
+faultLeft words rx tx kind =
+    pick (isLink words) (answerLeft (numberedFault (endOf words rx tx) kind)) (noLink words rx (0 ∷ []))
+
+unfoldable pub controlsOf : ℕ → ℕ → ℕ → Controls
+controlsOf disabled start auto = record { disabled = truth disabled; start = truth start; auto = truth auto }
+
+unfoldable pub controlLeft : List ℕ → List ℕ → List ℕ → Controls → LinkLeft
+controlLeft words rx tx c =
+    pick (isLink words) (answerLeft (controlOutcome (endOf words rx tx) c)) (noLink words rx (0 ∷ []))
+
+-- a send, with the number and the value of what goes out
+unfoldable pub dispatchLeft : Outcome Dispatch → LinkLeft
+dispatchLeft o =
+    record {
+      refusal = o .answer .refusal;
+      state = linkWords (o .answer .link);
+      places = o .rx;
+      out = narrow (o .answer .discarded) ∷ sentKind (o .answer .sent) ∷ sentValue (o .answer .sent) ∷ [];
+    }
+
+unfoldable pub sendLeft : List ℕ → List ℕ → List ℕ → LinkLeft
+sendLeft words rx tx =
+    pick (isLink words) (dispatchLeft (sendOutcome (endOf words rx tx))) (noLink words rx (0 ∷ 0 ∷ 0 ∷ []))
+
+-- a received token: the time record's words are lent too, and tested with the end's
+pub record ReceiveLeft : Type 0 where
+  pub refusal : ℕ
+  pub state : List ℕ
+  pub rx : List ℕ
+  pub time : List ℕ
+  pub out : List ℕ
+
+unfoldable pub receiptLeft : Outcome Receipt → ReceiveLeft
+receiptLeft o =
+    record {
+      refusal = o .answer .refusal;
+      state = linkWords (o .answer .link);
+      rx = o .rx;
+      time = timeWords (o .answer .time);
+      out = narrow (o .answer .discarded) ∷ truthWord (o .answer .tick) ∷ [];
+    }
+
+unfoldable pub noReceipt : List ℕ → List ℕ → List ℕ → ReceiveLeft
+noReceipt words rx time = record { refusal = number STATE; state = words; rx = rx; time = time; out = 0 ∷ 0 ∷ [] }
+
+unfoldable pub receiveLeft : List ℕ → List ℕ → List ℕ → List ℕ → ℕ → ℕ → ReceiveLeft
+receiveLeft words rx tx time kind value =
+    pick (isLink words && isTime time)
+    (receiptLeft (receiveOutcome (endOf words rx tx) (timeOf time) (tokenOf kind value)))
+    (noReceipt words rx time)
+
+-- the host's three
+unfoldable pub putDone : Answer → List ℕ → LinkLeft
+putDone a places =
+    record { refusal = a .refusal; state = linkWords (a .link); places = places; out = narrow (a .discarded) ∷ [] }
+
+unfoldable pub putLeft : List ℕ → List ℕ → ℕ → LinkLeft
+putLeft words tx n =
+    pick (isLink words)
+    (putDone (putAnswer (length tx) (linkOf words) (fitted n)) (putPlacesAfter tx (linkOf words) (fitted n)))
+    (noLink words tx (0 ∷ []))
+
+unfoldable pub taken : Taken → Left
+taken a =
+    record { refusal = a .refusal; state = linkWords (a .link); out = narrow (a .discarded) ∷ a .nchar ∷ [] }
+
+unfoldable pub takeLeft : List ℕ → List ℕ → Left
+takeLeft words rx =
+    pick (isLink words) (taken (takeAnswer rx (linkOf words)))
+    (record { refusal = number STATE; state = words; out = 0 ∷ 0 ∷ [] })
+
+unfoldable pub offered : Answer → Left
+offered a = record { refusal = a .refusal; state = linkWords (a .link); out = narrow (a .discarded) ∷ [] }
+
+unfoldable pub offerLeft : List ℕ → ℕ → Left
+offerLeft words code =
+    pick (isLink words) (offered (offerAnswer (linkOf words) code))
+    (record { refusal = number STATE; state = words; out = 0 ∷ [] })

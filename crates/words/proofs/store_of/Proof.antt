@@ -1,0 +1,14 @@
+-- `words::store_of` meets its contract.
+-- Assumes nothing.
+use borrow.Author.Needs.{needs}
+use Rattle.words.specs.Words.{storeOf}
+use mathlib.Core.Path.{refl, sym, _∙_}
+use Rattle.words.proofs.store_of.Statement.{statement}
+use Rattle.words.proofs.store_of.Tie as tie
+
+pub store-of-spec : {M : Type 1} → statement M
+unfolding storeOf
+store-of-spec =
+    tie.close
+    (tie.spec
+    (λ c. refl))
