@@ -2,7 +2,7 @@
 -- Assumes nothing.
 use mathlib.Core.Path.{_≡_}
 use Prim.Native.Nat.{ℕ, _+_, _*_, _/_, _%_, _^_, _<_}
-use mathlib.Core.Bool.{Bool, _||_}
+use mathlib.Core.Bool.{Bool, false, _||_}
 use mathlib.Core.List.{List}
 use lib.ListN.{getD, set, replicate}
 use lib.Dec.{eqb, ltb}
@@ -54,3 +54,10 @@ outsideRows row = ltb row 32 || ltb 255 row
 -- what "All 256 rows" comes to: every row of the fresh table is invalid
 abbrev pub EveryRowInvalid : Type 0
 EveryRowInvalid = (row : ℕ) → row < 256 → rowAt freshTable row ≡ INVALID
+
+-- what "Bits 10..1 request ports 10..1" comes to: in the set of ports that a row requests, bit p is bit p of the row for ports 1
+-- to 10, and no other bit is on
+pub record RequestsSay (row : ℕ) : Type 0 where
+  pub asked : (p : ℕ) → 0 < p → p < 11 → bit (requests row) p ≡ bit row p
+  pub configuration : bit (requests row) 0 ≡ false
+  pub above : requests row < 2048
