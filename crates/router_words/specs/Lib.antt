@@ -1,2 +1,1 @@
-pub mod RouterWords
 pub mod RouterCalls

@@ -1,0 +1,3 @@
+pub mod ListedLaws
+pub mod PlaceWords
+pub mod LayoutLaws
