@@ -28,7 +28,7 @@ use Rattle.rounds.specs.Moves.{frees, carries}
 use Rattle.rounds.specs.Model.{Model, model, at}
 use Rattle.rounds.proofs.KeepLaws.{wish}
 use Rattle.rounds.proofs.SoundLaws.{free-owner}
-use Rattle.lists.proofs.DeedLaws.{grant}
+use Rattle.rounds.proofs.DeedLaws.{grant}
 use Rattle.packets.specs.Ledger.{Ledger}
 use Rattle.packets.specs.Journal.{Fate, empty, spilt, sent, Packet, Part, sentTo, Read, Headed, Bound, Asks, InProgress, byOwner}
 use Rattle.packets.specs.Since.{Clear, Apart, Stage, since, before, Since}

@@ -20,7 +20,7 @@ use Rattle.ports.specs.declared.Output.{Output}
 use Rattle.rounds.specs.Grants.{same, waitsFor}
 use Rattle.rounds.specs.Moves.{frees, carries}
 use Rattle.rounds.specs.Model.{Model, model, at}
-use Rattle.lists.proofs.DeedLaws.{grant}
+use Rattle.rounds.proofs.DeedLaws.{grant}
 use Rattle.packets.specs.Ledger.{Ledger}
 use Rattle.packets.specs.Journal.{Fate, sent, Packet, Part, sentTo, Bound, InProgress, byOwner}
 use Rattle.packets.specs.Since.{Clear, Apart, Stage, since, before, Since}

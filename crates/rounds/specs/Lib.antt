@@ -5,4 +5,6 @@ pub mod Moves
 pub mod Rounds
 pub mod Model
 pub mod Exact
+pub mod InWords
+pub mod Alike
 pub mod Still

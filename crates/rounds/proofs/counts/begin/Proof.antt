@@ -1,5 +1,6 @@
 -- `rounds::counts::begin` meets its contract.
 -- Assumes nothing.
+use borrow.Author.Needs.{needs}
 use mathlib.Core.Path.{refl}
 use Rattle.rounds.specs.Rounds.{begun}
 use Rattle.rounds.proofs.counts.begin.Statement.{statement}
@@ -10,4 +11,4 @@ unfolding begun
 begin-spec =
     tie.close
     (tie.spec
-    (λ c. λ area. refl))
+    (λ c. λ w. refl))

@@ -15,15 +15,15 @@ use Rattle.ports.specs.Ports.{inputStore, outputStore}
 use Rattle.ports.specs.declared.Mode.{Mode}
 use Rattle.ports.specs.declared.Mode.the-variants.{Idle, Waiting, Routed, Spilling}
 use Rattle.ports.specs.declared.Output.{Output}
 use Rattle.rounds.specs.Acts.{Acts, Tally, changedTo, countMoved, countError, countRound}
 use Rattle.rounds.specs.Addresses.{follows, reads, ifIdle, addresses, part1}
 use Rattle.rounds.specs.Grants.{Candidate, Choice, nobody, input, isFree, waitsFor, fits, firstThat, candidates}
 use Rattle.rounds.specs.Grants.{chosen, granted, grantsTo, grants, part2}
 use Rattle.rounds.specs.Moves.{moves, movesOne, spills, spillsOne, ifSending, sends, part3}
 use Rattle.rounds.specs.Rounds.{round, rounds}
 use Rattle.rounds.proofs.KeepLaws.{first-fits}
-use Rattle.lists.specs.Alike.{Counted, Level}
-use Rattle.lists.proofs.DeedLaws.{frontIn, Stands, Moves, Taken, Shows, Deeds}
+use Rattle.rounds.specs.Alike.{Counted, Level}
+use Rattle.rounds.proofs.DeedLaws.{frontIn, Stands, Moves, Taken, Shows, Deeds}
 
 -- within a round the marks are the same too
 pub record Alike {X Y : Type 0} (R : X → Y → Type 0) (c : Counted) (t : Tally X) (u : Tally Y) : Type 0 where
