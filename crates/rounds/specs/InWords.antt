@@ -2,12 +2,13 @@
 -- the words load as; what is changed are the words of one port or store.
 -- Assumes nothing.
 use Prim.Native.Nat.{ℕ}
+use mathlib.Core.Path.{_≡_}
 use mathlib.Core.List.{List}
 use Rattle.ports.specs.Ports.{modeAt, outputAt, storeAt}
 use Rattle.ports.specs.Places.{Machine, machine, emptyAt, fullAt, frontAt, putAt}
 use Rattle.ports.specs.declared.Mode.{Mode}
 use Rattle.ports.specs.declared.Output.{Output}
-use Rattle.port_words.specs.RouterWords.{routerOf, withModeIn, withOutputIn, withoutFrontIn, withBehindIn}
+use Rattle.port_words.specs.RouterWords.{routerOf, routerWords, withModeIn, withOutputIn, withoutFrontIn, withBehindIn}
 use Rattle.rounds.specs.Acts.{Acts, Tally}
 use Rattle.rounds.specs.declared.Totals.{Totals}
 
@@ -39,3 +40,14 @@ inWords =
 -- what a function of rounds has counted, with the words as they stand
 abbrev pub tally : Totals → Words → Tally Words
 tally c w = record { now = w; rounds = c .rounds; moved = c .moved; errors = c .errors; changed = c .changed }
+
+-- the words that a state and its area are saved as
+abbrev pub savedOf : Machine → Words
+savedOf x = kept (routerWords (x .router)) (x .area)
+
+-- the same counts, and the words of what was left
+pub record SavedRun (t : Tally Machine) (u : Tally Words) : Type 0 where
+  pub now : u .now ≡ savedOf (t .now)
+  pub rounds : t .rounds ≡ u .rounds
+  pub moved : t .moved ≡ u .moved
+  pub errors : t .errors ≡ u .errors

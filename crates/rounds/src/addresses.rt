@@ -65,7 +65,12 @@ fn address(c: Totals, state: &mut [u32; 110], area: &[u16], table: &[u32; 256], 
     }
 }
 
-pub(crate) fn read_all(c: Totals, state: &mut [u32; 110], area: &[u16], table: &[u32; 256]) -> Totals
+pub(crate) fn read_all(
+    c: Totals,
+    state: &mut [u32; 110],
+    area: &[u16],
+    table: &[u32; 256],
+) -> Totals
     requires { ⌜ c .errors < 9999000 ⌝ }
     ensures { λ r. ⌜ tally r (kept (now (state .exit)) (now (area .entry))) ≡ part1 inWords (now (table .entry)) (tally c (kept (now (state .entry)) (now (area .entry)))) ⌝ }
 {
