@@ -5,16 +5,13 @@ use mathlib.Core.Path.{_≡_, refl, sym, ap, subst, _∙_}
 use mathlib.Core.Bool.{Bool, true, false}
 use mathlib.Core.List.{List}
 use Prim.Native.Nat.{ℕ, _+_, _/_, _^_, _≤_, _<_}
-use native.Mathlib.Decide.{decLt}
 use native.Mathlib.Omega.{arith}
-use lib.Dec.{eqb, leb, ltb}
-use lib.ListN.{length}
-use borrow.Author.Tests.{lt-ltb, le-ltb, ltb-false, leb-false}
+use lib.Dec.{eqb, ltb}
+use borrow.Author.Tests.{ltb-false}
 use Rattle.vocabulary.specs.Choice.{pick}
-use Rattle.store.specs.Ring.{badStore}
 use Rattle.store.specs.Changes.{dropped, putStore}
-use Rattle.store.specs.declared.Store.{Store}
-use Rattle.store.proofs.OrLaws.{or-left, or-right}
+use Rattle.store.proofs.OrLaws.{or-right}
+use Rattle.store.proofs.RingLaws.{front-below, len-within}
 use Rattle.table.specs.Headings.{heading}
 use Rattle.table.specs.declared.Direction.{Direction}
 use Rattle.table.specs.declared.Heading.the-variants.{Ports}
@@ -57,12 +54,6 @@ owner-fits : (modes : ℕ → Mode) (o : ℕ) (w : Owner) → OwnerOk modes o w 
 owner-fits modes o Free ok = tt
 owner-fits modes o (By i) ok = omega (arith, ok .0)
 
-good-store : (size : ℕ) (st : Store) → badStore size st ≡ false → (st .front < size) × (st .len ≤ size)
-good-store size st e = (
-  leb-false size (st .front) (or-left (leb size (st .front)) (ltb size (st .len)) e),
-  ltb-false size (st .len) (or-right (leb size (st .front)) (ltb size (st .len)) e),
-)
-
 module _ (n : ℕ) (small : n / 22 ≤ 1024) where
   fits : (x : Machine) → Sound n x → FitsRouter (x .router)
   fits x sound =
@@ -75,8 +66,8 @@ module _ (n : ℕ) (small : n / 22 ≤ 1024) where
         modes = λ p h. mode-fits (outputAt s) p (modeAt s p) (sound .agree .inputs p h);
         owners = λ p h. owner-fits (modeAt s) p (outputAt s p .owner) (sound .agree .owners p h);
         lasts = λ p h. omega (arith, sound .agree .lasts p h);
-        fronts = λ k h. omega (arith, good-store (sizeIn (x .area)) (storeAt s k) (sound .fits .fit k h), size, small);
-        lens = λ k h. omega (arith, good-store (sizeIn (x .area)) (storeAt s k) (sound .fits .fit k h), size, small);
+        fronts = λ k h. omega (arith, front-below (sizeIn (x .area)) (storeAt s k) (sound .fits .fit k h), size, small);
+        lens = λ k h. omega (arith, len-within (sizeIn (x .area)) (storeAt s k) (sound .fits .fit k h), size, small);
       }
 
   pub loads-back : (x : Machine) → Sound n x → loaded (savedOf x) ≡ x
