@@ -9,9 +9,10 @@ use native.Mathlib.Omega.{arith}
 use lib.Dec.{eqb}
 use Rattle.vocabulary.specs.Choice.{pick}
 use Rattle.vocabulary.specs.declared.Token.the-variants.{Null, Fct, NChar, TimeCode}
-use Rattle.words.specs.Words.{Stays, truth, truthWord}
+use Rattle.words.specs.Words.{Stays, truth}
 use Rattle.words.proofs.SameLaws.{same-is}
 use Rattle.words.proofs.StayLaws.{pick-stays}
+use Rattle.words.proofs.TruthLaws.{truth-back}
 use Rattle.words.proofs.TokenLaws.{token-back}
 use Rattle.characters.specs.Decoder.{bitStep, tickStep}
 use Rattle.characters.specs.Refusals.{decoderRefusal}
@@ -28,10 +29,6 @@ use Rattle.character_words.specs.DecoderWords.{FitsWaiting, FitsDecoder,
 
 byte-back : (n : ℕ) → n < 256 → n % 256 ≡ n
 byte-back n h = omega arith
-
-truth-back : (b : Bool) → truth (truthWord b) ≡ b
-truth-back true = refl
-truth-back false = refl
 
 waiting-back : (w : Waiting) → FitsWaiting w → waitingOf (waitingNumber w) (waitingValue w) ≡ w
 unfolding waitingOf

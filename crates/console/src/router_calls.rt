@@ -3,14 +3,14 @@ ghost use mathlib.Core.Path.{_≡_};
 ghost use mathlib.Core.List.{[], _∷_};
 ghost use Rattle.table.specs.Rows.{freshTable};
 ghost use Rattle.ports.specs.Ports.{freshRouter};
-ghost use Rattle.router_words.specs.RouterWords.{routerWords};
+ghost use Rattle.port_words.specs.RouterWords.{routerWords};
 ghost use Rattle.router_words.specs.RouterCalls.{putLeft, takeLeft, runLeft, rowRefused, tableLeft, rowLeft};
 
 #[no_mangle]
 pub extern "C" fn neftolek_router_fresh(state: &mut [u32; 110])
     ensures { λ r. ⌜ now (state .exit) ≡ routerWords freshRouter ⌝ }
 {
-    *state = router_words::saved(router::fresh());
+    *state = port_words::saved(router::fresh());
 }
 
 #[no_mangle]
@@ -30,11 +30,11 @@ pub extern "C" fn neftolek_router_put(
 ) -> u32
     ensures { λ r. ⌜ record { refusal = r; state = now (state .exit); area = now (area .exit); out = [] } ≡ putLeft (now (state .entry)) (now (area .entry)) port nchar ⌝ }
 {
-    let s = router_words::loaded(state);
-    if router_words::is_saved(state, s) {
+    let s = port_words::loaded(state);
+    if port_words::is_saved(state, s) {
         let a = router::put(s, area, words::wide(port), words::fitted(nchar));
         let next = a.router;
-        *state = router_words::saved(next);
+        *state = port_words::saved(next);
         a.refusal as u32
     } else {
         1
@@ -51,12 +51,12 @@ pub extern "C" fn neftolek_router_take(
 ) -> u32
     ensures { λ r. ⌜ record { refusal = r; state = now (state .exit); area = now (area .entry); out = now (out .exit) } ≡ takeLeft (now (state .entry)) (now (area .entry)) port ⌝ }
 {
-    let s = router_words::loaded(state);
-    if router_words::is_saved(state, s) {
+    let s = port_words::loaded(state);
+    if port_words::is_saved(state, s) {
         let a = router::take(s, area, words::wide(port));
         let next = a.router;
         let taken = a.taken as u32;
-        *state = router_words::saved(next);
+        *state = port_words::saved(next);
         *out = [taken];
         a.refusal as u32
     } else {
@@ -76,11 +76,11 @@ pub extern "C" fn neftolek_router_run(
 ) -> u32
     ensures { λ r. ⌜ record { refusal = r; state = now (state .exit); area = now (area .exit); out = now (out .exit) } ≡ runLeft (now (state .entry)) (now (area .entry)) (now (table .entry)) limit ⌝ }
 {
-    let s = router_words::loaded(state);
-    if router_words::is_saved(state, s) {
+    let s = port_words::loaded(state);
+    if port_words::is_saved(state, s) {
         let a = router::run(s, area, table, words::fitted(limit));
         let next = a.router;
-        *state = router_words::saved(next);
+        *state = port_words::saved(next);
         *out = [a.rounds, a.moved, a.errors];
         a.refusal as u32
     } else {
@@ -98,8 +98,8 @@ pub extern "C" fn neftolek_router_write_row(
 ) -> u32
     ensures { λ r. ⌜ (r ≡ rowRefused (now (state .entry)) row) × (now (table .exit) ≡ tableLeft (now (state .entry)) (now (table .entry)) row value) ⌝ }
 {
-    let s = router_words::loaded(state);
-    if router_words::is_saved(state, s) {
+    let s = port_words::loaded(state);
+    if port_words::is_saved(state, s) {
         let number = router::write_row(s, table, words::wide(row), value);
         number as u32
     } else {
@@ -117,8 +117,8 @@ pub extern "C" fn neftolek_router_read_row(
 ) -> u32
     ensures { λ r. ⌜ (r ≡ rowLeft (now (state .entry)) (now (table .entry)) row .refusal) × (now (out .exit) ≡ rowLeft (now (state .entry)) (now (table .entry)) row .value ∷ []) ⌝ }
 {
-    let s = router_words::loaded(state);
-    if router_words::is_saved(state, s) {
+    let s = port_words::loaded(state);
+    if port_words::is_saved(state, s) {
         let a = router::read_row(s, table, words::wide(row));
         *out = [a.value];
         a.refusal as u32

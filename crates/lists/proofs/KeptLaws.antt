@@ -15,9 +15,9 @@ use Rattle.rounds.specs.Acts.{Acts, Tally}
 use Rattle.rounds.specs.Addresses.{waits}
 use Rattle.rounds.specs.Moves.{frees, carries}
 use Rattle.rounds.specs.Rounds.{begun, rounds}
-use Rattle.lists.proofs.DeedLaws.{Level}
-use Rattle.lists.proofs.DeedLaws.{frontIn, grant, Stands, Moves, Taken, Shows, Deeds}
-use Rattle.lists.proofs.WalkLaws.{rounds-level}
+use Rattle.rounds.proofs.DeedLaws.{Level}
+use Rattle.rounds.proofs.DeedLaws.{frontIn, grant, Stands, Moves, Taken, Shows, Deeds}
+use Rattle.rounds.proofs.WalkLaws.{rounds-level}
 
 module _ {X : Type 0} (M : Acts X) (P : X → Type 0) (table : List ℕ) where
   pub record Keeps : Type 0 where

@@ -1,5 +1,3 @@
-pub mod DeedLaws
-pub mod WalkLaws
 pub mod PartLaws
 pub mod RingProof
 pub mod RunProof

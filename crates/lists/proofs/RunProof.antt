@@ -30,7 +30,7 @@ use Rattle.rounds.specs.Exact.{exact}
 use Rattle.rounds.proofs.KeepLaws.{wish}
 use Rattle.rounds.proofs.SoundLaws.{sound-kept, waits-below}
 use Rattle.rounds.proofs.FallLaws.{mode-keeps-stores, append-keeps-empty}
-use Rattle.lists.proofs.DeedLaws.{frontIn, Stands, Moves, Shows, Deeds}
+use Rattle.rounds.proofs.DeedLaws.{frontIn, Stands, Moves, Shows, Deeds}
 use Rattle.lists.proofs.RingProof.{Lists, shows-empty, shows-full, shows-front}
 use Rattle.lists.proofs.RingProof.{mode-tied, output-tied, drop-tied, append-tied}
 

@@ -18,10 +18,10 @@ use Rattle.router.specs.Refusals.{runRefusal}
 use Rattle.router.specs.Calls.{Run, told, runs}
 use Rattle.router.specs.Reached.{Reached, run}
 use Rattle.router.proofs.ReachedProof.{reached-keeps, never-spoiled, mark-is-exact}
-use Rattle.lists.proofs.DeedLaws.{Counted, Level}
+use Rattle.rounds.proofs.DeedLaws.{Counted, Level}
 use Rattle.lists.specs.Tied.{listsOf, Tied, RingsAreLists}
 use Rattle.lists.specs.OneByOne.{added, OneByOne, RunsOneByOne}
-use Rattle.lists.proofs.WalkLaws.{rounds-level}
+use Rattle.rounds.proofs.WalkLaws.{rounds-level}
 use Rattle.lists.proofs.RingProof.{Lists}
 use Rattle.lists.proofs.RunProof.{shows, deeds}
 use Rattle.lists.proofs.KeptLaws.{Keeps, Self, begun-anew}

@@ -17,7 +17,7 @@ use Rattle.ports.specs.declared.Owner.the-variants.{Free, By}
 use Rattle.rounds.specs.Grants.{same, waitsFor}
 use Rattle.rounds.specs.Moves.{frees, carries}
 use Rattle.rounds.specs.Model.{Model, model, at}
-use Rattle.lists.proofs.DeedLaws.{grant}
+use Rattle.rounds.proofs.DeedLaws.{grant}
 use Rattle.packets.specs.Ledger.{Ledger}
 use Rattle.packets.specs.Journal.{sent, Part, sentTo, byOwner}
 use Rattle.packets.specs.Since.{Clear, Stage, since, before, Since}

@@ -19,8 +19,8 @@ use Rattle.rounds.specs.Rounds.{begun, rounds}
 use Rattle.rounds.specs.Model.{Model, model}
 use Rattle.rounds.specs.Exact.{exact}
 use Rattle.rounds.proofs.SoundLaws.{free-owner, waits-below}
-use Rattle.lists.proofs.DeedLaws.{Shows, Deeds}
-use Rattle.lists.proofs.WalkLaws.{rounds-level}
+use Rattle.rounds.proofs.DeedLaws.{Shows, Deeds}
+use Rattle.rounds.proofs.WalkLaws.{rounds-level}
 use Rattle.lists.proofs.RingProof.{Lists, front-first}
 use Rattle.lists.proofs.RunProof.{shows, deeds, routed-below}
 use Rattle.packets.specs.Ledger.{Ledger}

@@ -2,3 +2,4 @@ pub mod EachLaws
 pub mod PlaceLaws
 pub mod PortLaws
 pub mod StateLaws
+pub mod AcceptedLaws

@@ -133,6 +133,15 @@ module _ (size : ℕ) (s : Router) (shape : Shape s) (fits : StoresFit size s) (
 abbrev stored : Router → ℕ → Store → Router
 stored s k st = record { inputs = s .inputs; outputs = s .outputs; stores = set (s .stores) k st }
 
+-- a store past the last is not changed, whatever it would hold
+pub store-picked : (s : Router) (k : ℕ) (st old : Store) → withStore s k (pick (ltb k 22) st old) ≡ withStore s k st
+unfolding withStore
+store-picked s k st old = go (ltb k 22)
+  where
+    go : (b : Bool) → pick b (stored s k (pick b st old)) s ≡ pick b (stored s k st) s
+    go true = refl
+    go false = refl
+
 module _ (s : Router) (k : ℕ) (st : Store) where
   pub store-keeps-modes : (i : ℕ) → modeAt (withStore s k st) i ≡ modeAt s i
   unfolding withStore

@@ -8,6 +8,7 @@ use lib.Dec.{eqb, ltb}
 use Rattle.vocabulary.specs.Choice.{pick}
 use Rattle.store.specs.Ring.{full, empty}
 use Rattle.store.specs.Changes.{putStore, putPlaces, frontOf, dropped}
+use Rattle.store.specs.declared.Store.{Store}
 use Rattle.ports.specs.Ports.{storeAt, withStore}
 use Rattle.ports.specs.declared.Router.{Router}
 
@@ -46,9 +47,11 @@ unfoldable pub withoutFront : Machine → ℕ → Machine
 withoutFront x k =
     machine (withStore (x .router) k (dropped (sizeIn (x .area)) (storeAt (x .router) k) 1)) (x .area)
 
+-- the area with an N-Char behind those of store k, whose record this is
+abbrev pub putAt : List ℕ → ℕ → Store → ℕ → List ℕ
+putAt area k st n = pick (ltb k 22) (withPlaces area k (putPlaces (placesAt area k) st n)) area
+
 unfoldable pub withBehind : Machine → ℕ → ℕ → Machine
 withBehind x k n =
     machine (withStore (x .router) k (putStore (sizeIn (x .area)) (storeAt (x .router) k)))
-    (pick (ltb k 22)
-    (withPlaces (x .area) k (putPlaces (placesAt (x .area) k) (storeAt (x .router) k) n))
-    (x .area))
+    (putAt (x .area) k (storeAt (x .router) k) n)

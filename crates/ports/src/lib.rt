@@ -2,10 +2,14 @@
 ghost use mathlib.Core.Path.{_≡_};
 ghost use Rattle.ports.specs.Ports.{freshRouter, modeAt, outputAt, storeAt, withMode, withOutput, withStore};
 ghost use Rattle.ports.specs.Numbers.{modeNumber, wantsNothing, modeWanted, modeOutput, ownerNumber, ownerInput};
-ghost use Rattle.ports.specs.Places.{machine, badArea, fullAt, frontAt, withoutFront, withBehind};
+ghost use Rattle.ports.specs.Places.{machine, sizeIn, badArea, placesAt, putAt};
+ghost use Rattle.ports.specs.Places.{fullAt, frontAt, withoutFront, withBehind};
 ghost use Rattle.ports.specs.Refusals.{isOwner, isRouted, badWanted, badMode};
 ghost use Rattle.ports.specs.Refusals.{badOutput, badOwner, badPort, badPorts, badStores};
 ghost use Rattle.store.specs.Ring.{empty};
+ghost use Rattle.store.specs.Changes.{frontOf, dropped, putStore};
+ghost use Rattle.vocabulary.specs.Choice.{pick};
+ghost use lib.Dec.{ltb};
 use store::Store;
 
 // The ports that an input waits for, bit p for port p, and at which priority.
@@ -199,49 +203,69 @@ pub fn full_at(s: Router, area: &[u16], k: usize) -> bool
     }
 }
 
-// The front N-Char of a store.
-pub fn front_at(s: Router, area: &[u16], k: usize) -> u16
-    ensures { λ r. ⌜ r ≡ frontAt (machine s (now (area .entry))) k ⌝ }
+// The front N-Char of store `k`, whose record this is.
+pub fn front_of(st: Store, area: &[u16], k: usize) -> u16
+    ensures { λ r. ⌜ r ≡ pick (ltb k 22) (frontOf (placesAt (now (area .entry)) k) st) 0 ⌝ }
 {
     if k < 22 {
         let size = area.len() / 22;
         let from = k * size;
         let to = from + size;
-        store::look(store_at(s, k), &area[from..to])
+        store::look(st, &area[from..to])
     } else {
         0
     }
+}
+
+// The record of store `k` with its front N-Char taken.
+pub fn drop_of(st: Store, area: &[u16], k: usize) -> Store
+    ensures { λ r. ⌜ r ≡ pick (ltb k 22) (dropped (sizeIn (now (area .entry))) st 1) st ⌝ }
+{
+    if k < 22 {
+        let size = area.len() / 22;
+        let from = k * size;
+        let to = from + size;
+        store::drop_first(st, &area[from..to], 1)
+    } else {
+        st
+    }
+}
+
+// The record of store `k`, and the area, with an N-Char behind those of the store.
+pub fn put_of(st: Store, area: &mut [u16], k: usize, n: u16) -> Store
+    ensures { λ r. ⌜ (r ≡ pick (ltb k 22) (putStore (sizeIn (now (area .entry))) st) st) × (now (area .exit) ≡ putAt (now (area .entry)) k st n) ⌝ }
+{
+    if k < 22 {
+        let size = area.len() / 22;
+        let from = k * size;
+        let to = from + size;
+        store::put(st, &mut area[from..to], n)
+    } else {
+        st
+    }
+}
+
+// The front N-Char of a store.
+pub fn front_at(s: Router, area: &[u16], k: usize) -> u16
+    ensures { λ r. ⌜ r ≡ frontAt (machine s (now (area .entry))) k ⌝ }
+{
+    front_of(store_at(s, k), area, k)
 }
 
 // The state with a store's front N-Char taken.
 pub fn without_front(s: Router, area: &[u16], k: usize) -> Router
     ensures { λ r. ⌜ machine r (now (area .entry)) ≡ withoutFront (machine s (now (area .entry))) k ⌝ }
 {
-    if k < 22 {
-        let size = area.len() / 22;
-        let from = k * size;
-        let to = from + size;
-        let next = store::drop_first(store_at(s, k), &area[from..to], 1);
-        with_store(s, k, next)
-    } else {
-        s
-    }
+    let next = drop_of(store_at(s, k), area, k);
+    with_store(s, k, next)
 }
 
 // The state and the area with an N-Char behind those of a store.
 pub fn with_behind(s: Router, area: &mut [u16], k: usize, n: u16) -> Router
     ensures { λ r. ⌜ machine r (now (area .exit)) ≡ withBehind (machine s (now (area .entry))) k n ⌝ }
 {
-    if k < 22 {
-        let size = area.len() / 22;
-        let from = k * size;
-        let to = from + size;
-        let st = store_at(s, k);
-        let next = store::put(st, &mut area[from..to], n);
-        with_store(s, k, next)
-    } else {
-        s
-    }
+    let next = put_of(store_at(s, k), area, k, n);
+    with_store(s, k, next)
 }
 
 pub fn bad_area(area: &[u16]) -> bool

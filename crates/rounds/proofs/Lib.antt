@@ -6,3 +6,6 @@ pub mod SoundLaws
 pub mod StillProof
 pub mod FallLaws
 pub mod MarkedProof
+pub mod DeedLaws
+pub mod WalkLaws
+pub mod WordsProof

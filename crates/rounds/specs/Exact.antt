@@ -1,13 +1,11 @@
 -- The router's state and its lent area, as a round sees and changes them.
 -- Assumes nothing.
 use Prim.Native.Nat.{ℕ}
-use mathlib.Core.List.{List}
 use Rattle.ports.specs.Ports.{modeAt, outputAt, withMode, withOutput}
 use Rattle.ports.specs.Places.{Machine, machine, emptyAt, fullAt, frontAt, withoutFront, withBehind}
 use Rattle.ports.specs.declared.Mode.{Mode}
 use Rattle.ports.specs.declared.Output.{Output}
-use Rattle.rounds.specs.Acts.{Acts, Tally}
-use Rattle.rounds.specs.declared.Progress.{Progress}
+use Rattle.rounds.specs.Acts.{Acts}
 
 abbrev pub exact : Acts Machine
 exact =
@@ -21,15 +19,4 @@ exact =
       setOutput = λ (x : Machine) (o : ℕ) (out : Output). machine (withOutput (x .router) o out) (x .area);
       dropFront = withoutFront;
       append = withBehind;
-    }
-
--- what a function of rounds is given, with what the area holds
-abbrev pub tally : Progress → List ℕ → Tally Machine
-tally p area =
-    record {
-      now = machine (p .router) area;
-      rounds = p .rounds;
-      moved = p .moved;
-      errors = p .errors;
-      changed = p .changed;
     }

@@ -5,4 +5,5 @@ pub mod Moves
 pub mod Rounds
 pub mod Model
 pub mod Exact
+pub mod InWords
 pub mod Still

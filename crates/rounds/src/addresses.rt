@@ -2,78 +2,82 @@
 ghost use mathlib.Core.Path.{_≡_};
 ghost use Prim.Native.Nat.{_<_};
 ghost use Rattle.rounds.specs.Addresses.{waits, follows, reads, ifIdle, addresses, part1};
-ghost use Rattle.rounds.specs.Exact.{exact, tally};
-ghost use Rattle.ports.specs.Places.{machine};
-use crate::Progress;
+ghost use Rattle.rounds.specs.InWords.{kept, inWords, tally};
+use crate::Totals;
 use crate::counts;
 use ports::Mode;
-use ports::Router;
 use ports::Wanted;
 use table::Direction;
 use table::Heading;
 
-fn wait(s: Router, area: &[u16], i: usize, d: Direction) -> Router
-    ensures { λ r. ⌜ machine r (now (area .entry)) ≡ waits exact (machine s (now (area .entry))) i d ⌝ }
+fn wait(state: &mut [u32; 110], area: &[u16], i: usize, d: Direction)
+    ensures { λ r. ⌜ kept (now (state .exit)) (now (area .entry)) ≡ waits inWords (kept (now (state .entry)) (now (area .entry))) i d ⌝ }
 {
     let ports = d.ports;
     let high = d.high;
-    let waiting = ports::with_mode(s, i, Mode::Waiting(Wanted { ports, high }));
+    port_words::set_mode(state, i, Mode::Waiting(Wanted { ports, high }));
     if d.delete {
-        ports::without_front(waiting, area, i)
-    } else {
-        waiting
+        port_words::drop_front(state, area, i);
     }
 }
 
-fn follow(p: Progress, area: &[u16], i: usize, h: Heading) -> Progress
-    requires { ⌜ p .errors < 10000000 ⌝ }
-    ensures { λ r. ⌜ tally r (now (area .entry)) ≡ follows exact (tally p (now (area .entry))) i h ⌝ }
+fn follow(c: Totals, state: &mut [u32; 110], area: &[u16], i: usize, h: Heading) -> Totals
+    requires { ⌜ c .errors < 10000000 ⌝ }
+    ensures { λ r. ⌜ tally r (kept (now (state .exit)) (now (area .entry))) ≡ follows inWords (tally c (kept (now (state .entry)) (now (area .entry)))) i h ⌝ }
 {
-    let s = p.router;
     match h {
-        Heading::End => counts::changed_to(p, ports::without_front(s, area, i)),
-        Heading::Nowhere => counts::changed_to(
-            counts::count_error(p),
-            ports::with_mode(s, i, Mode::Spilling),
-        ),
-        Heading::Ports(d) => counts::changed_to(p, wait(s, area, i, d)),
+        Heading::End => {
+            port_words::drop_front(state, area, i);
+            counts::mark(c)
+        }
+        Heading::Nowhere => {
+            port_words::set_mode(state, i, Mode::Spilling);
+            counts::mark(counts::count_error(c))
+        }
+        Heading::Ports(d) => {
+            wait(state, area, i, d);
+            counts::mark(c)
+        }
     }
 }
 
-fn read(p: Progress, area: &[u16], table: &[u32; 256], i: usize) -> Progress
-    requires { ⌜ p .errors < 10000000 ⌝ }
-    ensures { λ r. ⌜ tally r (now (area .entry)) ≡ reads exact (now (table .entry)) (tally p (now (area .entry))) i ⌝ }
+fn read(c: Totals, state: &mut [u32; 110], area: &[u16], table: &[u32; 256], i: usize) -> Totals
+    requires { ⌜ c .errors < 10000000 ⌝ }
+    ensures { λ r. ⌜ tally r (kept (now (state .exit)) (now (area .entry))) ≡ reads inWords (now (table .entry)) (tally c (kept (now (state .entry)) (now (area .entry)))) i ⌝ }
 {
-    let s = p.router;
-    if ports::empty_at(s, i) {
-        return p;
+    if port_words::empty_at(state, i) {
+        return c;
     }
-    let n = ports::front_at(s, area, i);
-    follow(p, area, i, table::heading_of(n, table))
+    let n = port_words::front_at(state, area, i);
+    follow(c, state, area, i, table::heading_of(n, table))
 }
 
-fn address(p: Progress, area: &[u16], table: &[u32; 256], i: usize) -> Progress
-    requires { ⌜ p .errors < 10000000 ⌝ }
-    ensures { λ r. ⌜ tally r (now (area .entry)) ≡ addresses exact (now (table .entry)) (tally p (now (area .entry))) i ⌝ }
+fn address(c: Totals, state: &mut [u32; 110], area: &[u16], table: &[u32; 256], i: usize) -> Totals
+    requires { ⌜ c .errors < 10000000 ⌝ }
+    ensures { λ r. ⌜ tally r (kept (now (state .exit)) (now (area .entry))) ≡ addresses inWords (now (table .entry)) (tally c (kept (now (state .entry)) (now (area .entry)))) i ⌝ }
 {
-    let s = p.router;
-    let m = ports::mode_at(s, i);
+    let m = port_words::mode_at(state, i);
     match m {
-        Mode::Idle => read(p, area, table, i),
-        Mode::Waiting(_) => p,
-        Mode::Routed(_) => p,
-        Mode::Spilling => p,
+        Mode::Idle => read(c, state, area, table, i),
+        Mode::Waiting(_) => c,
+        Mode::Routed(_) => c,
+        Mode::Spilling => c,
     }
 }
 
-pub(crate) fn read_all(p: Progress, area: &[u16], table: &[u32; 256]) -> Progress
-    requires { ⌜ p .errors < 9999000 ⌝ }
-    ensures { λ r. ⌜ tally r (now (area .entry)) ≡ part1 exact (now (table .entry)) (tally p (now (area .entry))) ⌝ }
+pub(crate) fn read_all(
+    c: Totals,
+    state: &mut [u32; 110],
+    area: &[u16],
+    table: &[u32; 256],
+) -> Totals
+    requires { ⌜ c .errors < 9999000 ⌝ }
+    ensures { λ r. ⌜ tally r (kept (now (state .exit)) (now (area .entry))) ≡ part1 inWords (now (table .entry)) (tally c (kept (now (state .entry)) (now (area .entry)))) ⌝ }
 {
-    let mut q = p;
+    let mut q = c;
     let mut i = 0;
     while i < 11 {
-        q = address(q, area, table, i);
+        q = address(q, state, area, table, i);
         i = i + 1;
     }
     q

@@ -1,20 +1,15 @@
 // What a run counts.
 ghost use mathlib.Core.Path.{_≡_};
 ghost use Prim.Native.Nat.{_<_};
-ghost use mathlib.Core.List.{List};
-ghost use Prim.Native.Nat.{ℕ};
 ghost use Rattle.rounds.specs.Acts.{changedTo, countMoved, countError, countRound};
 ghost use Rattle.rounds.specs.Rounds.{begun};
-ghost use Rattle.rounds.specs.Exact.{tally};
-ghost use Rattle.ports.specs.Places.{machine};
-use crate::Progress;
-use ports::Router;
+ghost use Rattle.rounds.specs.InWords.{Words, tally};
+use crate::Totals;
 
-pub(crate) fn begin(s: Router) -> Progress
-    ensures { λ r. ⌜ ((area : List ℕ) → tally r area ≡ begun (machine s area)) ⌝ }
+pub(crate) fn begin() -> Totals
+    ensures { λ r. ⌜ ((w : Words) → tally r w ≡ begun w) ⌝ }
 {
-    Progress {
-        router: s,
+    Totals {
         rounds: 0,
         moved: 0,
         errors: 0,
@@ -22,47 +17,40 @@ pub(crate) fn begin(s: Router) -> Progress
     }
 }
 
-pub(crate) fn changed_to(p: Progress, s: Router) -> Progress
-    ensures { λ r. ⌜ ((before area : List ℕ) → tally r area ≡ changedTo (tally p before) (machine s area)) ⌝ }
+pub(crate) fn mark(c: Totals) -> Totals
+    ensures { λ r. ⌜ ((before w : Words) → tally r w ≡ changedTo (tally c before) w) ⌝ }
 {
-    let rounds = p.rounds;
-    let moved = p.moved;
-    let errors = p.errors;
-    Progress {
-        router: s,
-        rounds,
-        moved,
-        errors,
-        changed: true,
-    }
+    let mut q = c;
+    q.changed = true;
+    q
 }
 
-pub(crate) fn count_moved(p: Progress) -> Progress
-    requires { ⌜ p .moved < 10000000 ⌝ }
-    ensures { λ r. ⌜ ((area : List ℕ) → tally r area ≡ countMoved (tally p area)) ⌝ }
+pub(crate) fn count_moved(c: Totals) -> Totals
+    requires { ⌜ c .moved < 10000000 ⌝ }
+    ensures { λ r. ⌜ ((w : Words) → tally r w ≡ countMoved (tally c w)) ⌝ }
 {
-    let mut q = p;
-    let n = p.moved;
+    let mut q = c;
+    let n = c.moved;
     q.moved = n + 1;
     q
 }
 
-pub(crate) fn count_error(p: Progress) -> Progress
-    requires { ⌜ p .errors < 10000000 ⌝ }
-    ensures { λ r. ⌜ ((area : List ℕ) → tally r area ≡ countError (tally p area)) ⌝ }
+pub(crate) fn count_error(c: Totals) -> Totals
+    requires { ⌜ c .errors < 10000000 ⌝ }
+    ensures { λ r. ⌜ ((w : Words) → tally r w ≡ countError (tally c w)) ⌝ }
 {
-    let mut q = p;
-    let n = p.errors;
+    let mut q = c;
+    let n = c.errors;
     q.errors = n + 1;
     q
 }
 
-pub(crate) fn count_round(p: Progress) -> Progress
-    requires { ⌜ p .rounds < 10000000 ⌝ }
-    ensures { λ r. ⌜ ((area : List ℕ) → tally r area ≡ countRound (tally p area)) ⌝ }
+pub(crate) fn count_round(c: Totals) -> Totals
+    requires { ⌜ c .rounds < 10000000 ⌝ }
+    ensures { λ r. ⌜ ((w : Words) → tally r w ≡ countRound (tally c w)) ⌝ }
 {
-    let mut q = p;
-    let n = p.rounds;
+    let mut q = c;
+    let n = c.rounds;
     q.rounds = n + 1;
     q.changed = false;
     q

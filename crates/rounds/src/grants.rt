@@ -4,14 +4,14 @@ ghost use mathlib.Core.Bool.{not};
 ghost use mathlib.Core.List.{List};
 ghost use Prim.Native.Nat.{ℕ, _<_, _+_, _%_};
 ghost use Rattle.rounds.specs.Grants.{isFree, waitsFor, granted, part2};
-ghost use Rattle.rounds.specs.Exact.{exact, tally};
+ghost use Rattle.rounds.specs.InWords.{kept, inWords, tally};
 ghost use Rattle.ports.specs.Ports.{wants, modeAt, outputAt};
-use crate::Progress;
+ghost use Rattle.port_words.specs.RouterWords.{routerOf};
+use crate::Totals;
 use crate::counts;
 use ports::Mode;
 use ports::Output;
 use ports::Owner;
-use ports::Router;
 use ports::Wanted;
 
 fn wanted(ports: u16, o: usize) -> bool
@@ -33,11 +33,11 @@ fn waits_so(w: Wanted, o: usize, high: bool) -> bool
     }
 }
 
-fn waits_for(s: Router, i: usize, o: usize, high: bool) -> bool
+fn waits_for(state: &[u32; 110], i: usize, o: usize, high: bool) -> bool
     requires { ⌜ o < 11 ⌝ }
-    ensures { λ r. ⌜ r ≡ waitsFor o high (modeAt s i) ⌝ }
+    ensures { λ r. ⌜ r ≡ waitsFor o high (modeAt (routerOf (now (state .entry))) i) ⌝ }
 {
-    let m = ports::mode_at(s, i);
+    let m = port_words::mode_at(state, i);
     match m {
         Mode::Idle => false,
         Mode::Waiting(w) => waits_so(w, o, high),
@@ -53,10 +53,10 @@ fn in_turn(last: usize, on: usize) -> usize
     (last % 11 + on) % 11
 }
 
-fn is_owned(s: Router, o: usize) -> bool
-    ensures { λ r. ⌜ r ≡ not (isFree (outputAt s o .owner)) ⌝ }
+fn is_owned(state: &[u32; 110], o: usize) -> bool
+    ensures { λ r. ⌜ r ≡ not (isFree (outputAt (routerOf (now (state .entry))) o .owner)) ⌝ }
 {
-    let out = ports::output_at(s, o);
+    let out = port_words::output_at(state, o);
     let owner = out.owner;
     match owner {
         Owner::Free => false,
@@ -64,46 +64,45 @@ fn is_owned(s: Router, o: usize) -> bool
     }
 }
 
-fn last_granted(s: Router, o: usize) -> usize
-    ensures { λ r. ⌜ r ≡ outputAt s o .last ⌝ }
+fn last_granted(state: &[u32; 110], o: usize) -> usize
+    ensures { λ r. ⌜ r ≡ outputAt (routerOf (now (state .entry))) o .last ⌝ }
 {
-    let out = ports::output_at(s, o);
+    let out = port_words::output_at(state, o);
     out.last
 }
 
-fn grant(p: Progress, o: usize, i: usize) -> Progress
-    ensures { λ r. ⌜ ((area : List ℕ) → tally r area ≡ granted exact (tally p area) o i) ⌝ }
+fn grant(c: Totals, state: &mut [u32; 110], o: usize, i: usize) -> Totals
+    ensures { λ r. ⌜ ((area : List ℕ) → tally r (kept (now (state .exit)) area) ≡ granted inWords (tally c (kept (now (state .entry)) area)) o i) ⌝ }
 {
-    let s = p.router;
-    let taken = ports::with_output(
-        s,
+    port_words::set_output(
+        state,
         o,
         Output {
             owner: Owner::By(i),
             last: i,
         },
     );
-    counts::changed_to(p, ports::with_mode(taken, i, Mode::Routed(o)))
+    port_words::set_mode(state, i, Mode::Routed(o));
+    counts::mark(c)
 }
 
 // Candidates 0 to 10 are the inputs in cyclic order at high priority, 11 to 21 the same at low.
-pub(crate) fn grant_all(p: Progress) -> Progress
-    ensures { λ r. ⌜ ((area : List ℕ) → tally r area ≡ part2 exact (tally p area)) ⌝ }
+pub(crate) fn grant_all(c: Totals, state: &mut [u32; 110]) -> Totals
+    ensures { λ r. ⌜ ((area : List ℕ) → tally r (kept (now (state .exit)) area) ≡ part2 inWords (tally c (kept (now (state .entry)) area))) ⌝ }
 {
-    let mut q = p;
+    let mut q = c;
     let mut o = 0;
     'outputs: while o < 11 {
-        let s = q.router;
-        if is_owned(s, o) {
+        if is_owned(state, o) {
             o = o + 1;
             continue 'outputs;
         }
-        let last = last_granted(s, o);
+        let last = last_granted(state, o);
         let mut k = 0;
         while k < 22 {
             let i = in_turn(last, k + 1);
-            if waits_for(s, i, o, k < 11) {
-                q = grant(q, o, i);
+            if waits_for(state, i, o, k < 11) {
+                q = grant(q, state, o, i);
                 o = o + 1;
                 continue 'outputs;
             }

@@ -3,115 +3,109 @@ ghost use mathlib.Core.Path.{_≡_};
 ghost use mathlib.Core.List.{List};
 ghost use Prim.Native.Nat.{ℕ, _<_};
 ghost use Rattle.rounds.specs.Moves.{frees, carries, moves, movesOne, spills, spillsOne, sends, part3};
-ghost use Rattle.rounds.specs.Exact.{exact, tally};
-ghost use Rattle.ports.specs.Places.{machine};
-use crate::Progress;
+ghost use Rattle.rounds.specs.InWords.{kept, inWords, tally};
+use crate::Totals;
 use crate::counts;
 use ports::Mode;
 use ports::Output;
 use ports::Owner;
-use ports::Router;
 
-fn free_both(s: Router, i: usize, o: usize) -> Router
-    ensures { λ r. ⌜ ((area : List ℕ) → machine r area ≡ frees exact (machine s area) i o) ⌝ }
+fn free_both(state: &mut [u32; 110], i: usize, o: usize)
+    ensures { λ r. ⌜ ((area : List ℕ) → kept (now (state .exit)) area ≡ frees inWords (kept (now (state .entry)) area) i o) ⌝ }
 {
-    let out = ports::output_at(s, o);
+    let out = port_words::output_at(state, o);
     let last = out.last;
-    let freed = ports::with_output(
-        s,
+    port_words::set_output(
+        state,
         o,
         Output {
             owner: Owner::Free,
             last,
         },
     );
-    ports::with_mode(freed, i, Mode::Idle)
+    port_words::set_mode(state, i, Mode::Idle);
 }
 
-fn carry(s: Router, area: &mut [u16], i: usize, o: usize, n: u16) -> Router
+fn carry(state: &mut [u32; 110], area: &mut [u16], i: usize, o: usize, n: u16)
     requires { ⌜ o < 11 ⌝ }
-    ensures { λ r. ⌜ machine r (now (area .exit)) ≡ carries exact (machine s (now (area .entry))) i o n ⌝ }
+    ensures { λ r. ⌜ kept (now (state .exit)) (now (area .exit)) ≡ carries inWords (kept (now (state .entry)) (now (area .entry))) i o n ⌝ }
 {
-    let put = ports::with_behind(s, area, 11 + o, n);
-    ports::without_front(put, area, i)
+    port_words::append(state, area, 11 + o, n);
+    port_words::drop_front(state, area, i);
 }
 
-fn moved(p: Progress, area: &mut [u16], i: usize, o: usize, n: u16) -> Progress
-    requires { ⌜ (o < 11) × (p .moved < 10000000) ⌝ }
-    ensures { λ r. ⌜ tally r (now (area .exit)) ≡ moves exact (tally p (now (area .entry))) i o n ⌝ }
+fn moved(c: Totals, state: &mut [u32; 110], area: &mut [u16], i: usize, o: usize, n: u16) -> Totals
+    requires { ⌜ (o < 11) × (c .moved < 10000000) ⌝ }
+    ensures { λ r. ⌜ tally r (kept (now (state .exit)) (now (area .exit))) ≡ moves inWords (tally c (kept (now (state .entry)) (now (area .entry)))) i o n ⌝ }
 {
-    let s = p.router;
-    let carried = carry(s, area, i, o, n);
-    let counted = counts::count_moved(p);
+    carry(state, area, i, o, n);
+    let counted = counts::count_moved(c);
     if vocabulary::is_end(n) {
-        counts::changed_to(counted, free_both(carried, i, o))
+        free_both(state, i, o);
+        counts::mark(counted)
     } else {
-        counts::changed_to(counted, carried)
+        counts::mark(counted)
     }
 }
 
-fn move_one(p: Progress, area: &mut [u16], i: usize, o: usize) -> Progress
-    requires { ⌜ p .moved < 10000000 ⌝ }
-    ensures { λ r. ⌜ tally r (now (area .exit)) ≡ movesOne exact (tally p (now (area .entry))) i o ⌝ }
+fn move_one(c: Totals, state: &mut [u32; 110], area: &mut [u16], i: usize, o: usize) -> Totals
+    requires { ⌜ c .moved < 10000000 ⌝ }
+    ensures { λ r. ⌜ tally r (kept (now (state .exit)) (now (area .exit))) ≡ movesOne inWords (tally c (kept (now (state .entry)) (now (area .entry)))) i o ⌝ }
 {
-    let s = p.router;
     if 11 <= o {
-        return p;
+        return c;
     }
-    if ports::full_at(s, area, 11 + o) {
-        return p;
+    if port_words::full_at(state, area, 11 + o) {
+        return c;
     }
-    if ports::empty_at(s, i) {
-        return p;
+    if port_words::empty_at(state, i) {
+        return c;
     }
-    let n = ports::front_at(s, area, i);
-    moved(p, area, i, o, n)
+    let n = port_words::front_at(state, area, i);
+    moved(c, state, area, i, o, n)
 }
 
-fn spill(s: Router, area: &[u16], i: usize, n: u16) -> Router
-    ensures { λ r. ⌜ machine r (now (area .entry)) ≡ spills exact (machine s (now (area .entry))) i n ⌝ }
+fn spill(state: &mut [u32; 110], area: &[u16], i: usize, n: u16)
+    ensures { λ r. ⌜ kept (now (state .exit)) (now (area .entry)) ≡ spills inWords (kept (now (state .entry)) (now (area .entry))) i n ⌝ }
 {
-    let spilt = ports::without_front(s, area, i);
+    port_words::drop_front(state, area, i);
     if vocabulary::is_end(n) {
-        ports::with_mode(spilt, i, Mode::Idle)
-    } else {
-        spilt
+        port_words::set_mode(state, i, Mode::Idle);
     }
 }
 
-fn spill_one(p: Progress, area: &[u16], i: usize) -> Progress
-    ensures { λ r. ⌜ tally r (now (area .entry)) ≡ spillsOne exact (tally p (now (area .entry))) i ⌝ }
+fn spill_one(c: Totals, state: &mut [u32; 110], area: &[u16], i: usize) -> Totals
+    ensures { λ r. ⌜ tally r (kept (now (state .exit)) (now (area .entry))) ≡ spillsOne inWords (tally c (kept (now (state .entry)) (now (area .entry)))) i ⌝ }
 {
-    let s = p.router;
-    if ports::empty_at(s, i) {
-        return p;
+    if port_words::empty_at(state, i) {
+        return c;
     }
-    let n = ports::front_at(s, area, i);
-    counts::changed_to(p, spill(s, area, i, n))
+    let n = port_words::front_at(state, area, i);
+    spill(state, area, i, n);
+    counts::mark(c)
 }
 
-fn send(p: Progress, area: &mut [u16], i: usize) -> Progress
-    requires { ⌜ p .moved < 10000000 ⌝ }
-    ensures { λ r. ⌜ tally r (now (area .exit)) ≡ sends exact (tally p (now (area .entry))) i ⌝ }
+fn send(c: Totals, state: &mut [u32; 110], area: &mut [u16], i: usize) -> Totals
+    requires { ⌜ c .moved < 10000000 ⌝ }
+    ensures { λ r. ⌜ tally r (kept (now (state .exit)) (now (area .exit))) ≡ sends inWords (tally c (kept (now (state .entry)) (now (area .entry)))) i ⌝ }
 {
-    let s = p.router;
-    let m = ports::mode_at(s, i);
+    let m = port_words::mode_at(state, i);
     match m {
-        Mode::Idle => p,
-        Mode::Waiting(_) => p,
-        Mode::Routed(o) => move_one(p, area, i, o),
-        Mode::Spilling => spill_one(p, area, i),
+        Mode::Idle => c,
+        Mode::Waiting(_) => c,
+        Mode::Routed(o) => move_one(c, state, area, i, o),
+        Mode::Spilling => spill_one(c, state, area, i),
     }
 }
 
-pub(crate) fn send_all(p: Progress, area: &mut [u16]) -> Progress
-    requires { ⌜ p .moved < 9999000 ⌝ }
-    ensures { λ r. ⌜ tally r (now (area .exit)) ≡ part3 exact (tally p (now (area .entry))) ⌝ }
+pub(crate) fn send_all(c: Totals, state: &mut [u32; 110], area: &mut [u16]) -> Totals
+    requires { ⌜ c .moved < 9999000 ⌝ }
+    ensures { λ r. ⌜ tally r (kept (now (state .exit)) (now (area .exit))) ≡ part3 inWords (tally c (kept (now (state .entry)) (now (area .entry)))) ⌝ }
 {
-    let mut q = p;
+    let mut q = c;
     let mut i = 0;
     while i < 11 {
-        q = send(q, area, i);
+        q = send(q, state, area, i);
         i = i + 1;
     }
     q

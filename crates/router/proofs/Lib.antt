@@ -3,3 +3,4 @@ pub mod HeldLaws
 pub mod HeldProof
 pub mod CaseProofs
 pub mod ReachedProof
+pub mod InWordsLaws

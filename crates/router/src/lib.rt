@@ -154,11 +154,12 @@ pub fn run(s: Router, area: &mut [u16], table: &[u32; 256], limit: u16) -> Ran
 {
     let number = run_refusal(s, area, limit);
     if number == 0 {
-        let p = rounds::run(s, area, table, limit);
-        let router = p.router;
-        let rounds = p.rounds;
-        let moved = p.moved;
-        let errors = p.errors;
+        let mut state = port_words::saved(s);
+        let c = rounds::run_in_place(&mut state, area, table, limit);
+        let router = port_words::loaded(&state);
+        let rounds = c.rounds;
+        let moved = c.moved;
+        let errors = c.errors;
         Ran {
             refusal: 0,
             router,

@@ -9,7 +9,7 @@ use Rattle.words.specs.Words.{truthWord, narrow}
 use Rattle.ports.specs.Numbers.{modeNumber, modeWanted, modeOutput, ownerNumber, ownerInput}
 use Rattle.router.specs.Held.{stillHeld}
 use Rattle.router.specs.declared.StillHeld.{StillHeld}
-use Rattle.router_words.specs.RouterWords.{routerOf, isRouter}
+use Rattle.port_words.specs.RouterWords.{routerOf, isRouter}
 
 -- the input's mode, with the ports that it waits for, at which priority, or the output that it is routed to, and how many N-Chars
 -- wait there; whether the output is held and by which input, and how many wait there; then the two sets, and whether nothing is held

@@ -1,3 +1,2 @@
-pub mod RouterWords
 pub mod RouterCalls
 pub mod HeldCalls

@@ -11,7 +11,7 @@ use Rattle.ports.specs.Places.{machine}
 use Rattle.router.specs.Refusals.{rowRefusal}
 use Rattle.router.specs.Calls.{Put, Took, Run, puts, takes, runs, writesRow, readsRow}
 use Rattle.router.specs.declared.RowRead.{RowRead}
-use Rattle.router_words.specs.RouterWords.{routerWords, routerOf, isRouter}
+use Rattle.port_words.specs.RouterWords.{routerWords, routerOf, isRouter}
 
 pub record RouterLeft : Type 0 where
   pub refusal : ℕ

@@ -2,11 +2,6 @@
 -- Assumes nothing.
 use borrow.Author.Needs.{needs}
 use mathlib.Core.Path.{_∙_}
-use borrow.Author.Tests.{le-ltb, lt-ltb}
-use Prim.Native.Nat.{_/_}
-use native.Mathlib.Omega.{arith}
-use lib.ListN.{length}
-use Rattle.ports.proofs.PlaceLaws.{part-ends, part-size}
 use Rattle.ports.proofs.front_at.Statement.{statement}
 use Rattle.ports.proofs.front_at.Tie as tie
 
@@ -14,15 +9,6 @@ pub front-at-spec : {M : Type 1} → statement M
 front-at-spec =
     tie.close
     (tie.spec
-    (λ c. let a = c .before .before .args in omega (arith, part-ends (a .k) (length (a .area .now)) (c .if1 .taken)))
-    (λ c. let a = c .before .before .args in omega (arith, part-ends (a .k) (length (a .area .now)) (c .if1 .taken)))
     (λ c κs. search needs)
-    (λ c. let a = c .before .before .before .args in omega (arith, part-ends (a .k) (length (a .area .now)) (c .before .if1 .taken)))
-    (λ c. search needs)
-    (λ c. search needs)
-    (λ c. let a = c .before .before .before .args in omega (arith, part-ends (a .k) (length (a .area .now)) (c .before .if1 .taken)))
     (λ c κs. search needs)
-    (λ c. let a = c .before .before .before .before .before .args in
-    c .look .ensures
-    ∙ rw (part-size (a .k) (length (a .area .now) / 22), c .before .before .store-at .ensures, lt-ltb _ _ (c .before .before .before .if1 .taken)))
-    (λ c. rw (le-ltb _ _ (c .if1 .left))))
+    (λ c. c .front-of .ensures ∙ rw (c .before .store-at .ensures)))

@@ -1,40 +1,19 @@
 -- `ports::with_behind` meets its contract.
 -- Assumes nothing.
 use borrow.Author.Needs.{needs}
-use borrow.Author.Tests.{le-ltb, lt-ltb}
+use mathlib.Core.Path.{_∙_}
 use Rattle.ports.specs.Places.{withBehind}
-use Rattle.ports.specs.Ports.{withStore}
-use Prim.Native.Nat.{_/_}
-use native.Mathlib.Omega.{arith}
-use lib.ListN.{length}
-use Rattle.ports.proofs.PlaceLaws.{part-ends, part-size, places-length}
+use Rattle.ports.proofs.StateLaws.{store-picked}
 use Rattle.ports.proofs.with_behind.Statement.{statement}
 use Rattle.ports.proofs.with_behind.Tie as tie
 
 pub with-behind-spec : {M : Type 1} → statement M
-unfolding withBehind withStore
+unfolding withBehind
 with-behind-spec =
     tie.close
     (tie.spec
-    (λ c. let a = c .before .before .args in omega (arith, part-ends (a .k) (length (a .area .now)) (c .if1 .taken)))
-    (λ c. let a = c .before .before .args in omega (arith, part-ends (a .k) (length (a .area .now)) (c .if1 .taken)))
     (λ c κs. search needs)
-    (λ c. let a = c .before .before .before .args in omega (arith, part-ends (a .k) (length (a .area .now)) (c .before .if1 .taken)))
-    (λ c. search needs)
-    (λ c. search needs)
-    (λ c. let a = c .before .before .before .args in omega (arith, part-ends (a .k) (length (a .area .now)) (c .before .if1 .taken)))
     (λ c κs. search needs)
     (λ c κs. search needs)
     (λ c. search needs)
-    (λ c. let a = c .before .before .before .before .before .before .before .before .args in
-    let inside = c .before .before .before .before .before .before .if1 .taken in
-    rw (
-      c .with-store .ensures,
-      c .before .before .before .put .ensures .0,
-      c .before .before .before .put .ensures .1,
-      c .before .before .before .before .before .store-at .ensures,
-      part-size (a .k) (length (a .area .now) / 22),
-      places-length (a .area .now) (a .k) inside,
-      lt-ltb _ _ inside,
-    ))
-    (λ c. rw (le-ltb _ _ (c .if1 .left))))
+    (λ c. rw (c .with-store .ensures, c .before .before .before .put-of .ensures .0, c .before .before .before .put-of .ensures .1, c .before .before .before .before .before .store-at .ensures, store-picked)))

@@ -1,7 +1,8 @@
 -- `rounds::addresses::address` meets its contract.
 -- Assumes nothing.
 use borrow.Author.Needs.{needs}
-use mathlib.Core.Path.{sym, _∙_}
+use mathlib.Core.Path.{_∙_}
+use mathlib.Core.Path.{sym}
 use Rattle.rounds.specs.Addresses.{addresses}
 use Rattle.rounds.proofs.addresses.address.Statement.{statement}
 use Rattle.rounds.proofs.addresses.address.Tie as tie
@@ -17,7 +18,7 @@ address-spec =
     (λ c. search needs)
     (λ c. search needs)
     (λ c. search needs)
-    (λ c. c .read .ensures ∙ sym (rw (← c .before .before .before .mode-at .ensures, c .before .enum-told .given .1)))
+    (λ c. c .read .ensures ∙ sym (rw (← c .before .before .before .before .mode-at .ensures, c .before .before .enum-told .given .1)))
     (λ c. rw (← c .before .before .mode-at .ensures, c .enum-told2 .given .1))
     (λ c. rw (← c .before .before .mode-at .ensures, c .enum-told3 .given .1))
     (λ c. rw (← c .before .before .mode-at .ensures, c .enum-told4 .given .1)))

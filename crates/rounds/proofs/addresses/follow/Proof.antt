@@ -2,6 +2,7 @@
 -- Assumes nothing.
 use borrow.Author.Needs.{needs}
 use mathlib.Core.Path.{_∙_}
+use Rattle.rounds.specs.InWords.{kept}
 use Rattle.rounds.proofs.addresses.follow.Statement.{statement}
 use Rattle.rounds.proofs.addresses.follow.Tie as tie
 
@@ -19,9 +20,7 @@ follow-spec =
     (λ c. search needs)
     (λ c κs. search needs)
     (λ c κs. search needs)
-    (λ c. let area = c .before .before .before .before .before .before .args .area .now in
-    c .changed-to .ensures area area ∙ rw (c .before .without-front .ensures, c .before .before .enum-told .given .1))
-    (λ c. let area = c .before .before .before .before .before .before .before .args .area .now in
-    c .changed-to2 .ensures area area ∙ rw (c .before .before .count-error .ensures area, c .before .with-mode .ensures, c .before .before .before .enum-told2 .given .1))
-    (λ c. let area = c .before .before .before .before .before .before .before .args .area .now in
-    c .changed-to3 .ensures area area ∙ rw (c .before .wait .ensures, c .before .before .before .h .given .1)))
+    (λ c. c .mark .ensures (kept (c .before .before .before .before .before .before .args .state .now) (c .before .before .before .before .before .before .args .area .now)) _ ∙ rw (c .before .drop-front .ensures, c .before .before .before .enum-told .given .1))
+    (λ c. let before = kept (c .before .before .before .before .before .before .before .args .state .now) (c .before .before .before .before .before .before .before .args .area .now) in
+    c .mark2 .ensures before _ ∙ rw (c .before .count-error .ensures before, c .before .before .set-mode .ensures, c .before .before .before .before .enum-told2 .given .1))
+    (λ c. c .mark3 .ensures (kept (c .before .before .before .before .before .before .before .args .state .now) (c .before .before .before .before .before .before .before .args .area .now)) _ ∙ rw (c .before .wait .ensures, c .before .before .before .before .h .given .1)))

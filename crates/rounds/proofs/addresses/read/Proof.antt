@@ -16,4 +16,4 @@ read-spec =
     (λ c κs. search needs)
     (λ c κs. search needs)
     (λ c κs. search needs)
-    (λ c. c .follow .ensures ∙ rw (c .before .heading-of .ensures, c .before .before .front-at .ensures, ← c .before .before .before .before .empty-at .ensures, c .before .before .before .if1 .left)))
+    (λ c. c .follow .ensures ∙ rw (c .before .heading-of .ensures, c .before .before .before .front-at .ensures, ← c .before .before .before .before .before .before .empty-at .ensures, c .before .before .before .before .before .if1 .left)))

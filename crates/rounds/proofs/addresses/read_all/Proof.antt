@@ -1,40 +1,39 @@
--- `rounds::addresses::read_all` meets its contract. The invariant: what is left of part 1, done to the present state, is
--- part 1; and each input that was passed added at most one error.
+-- `rounds::addresses::read_all` meets its contract.
 -- Assumes nothing.
 use mathlib.Core.Path.{_≡_, refl, sym, ap, _∙_}
 use Prim.Native.Nat.{_+_, _-_, _≤_}
 use native.Mathlib.Omega.{arith}
 use Rattle.ports.specs.Each.{each}
-use Rattle.ports.specs.Places.{Machine}
 use Rattle.ports.proofs.EachLaws.{each-next, each-done}
 use Rattle.rounds.specs.Acts.{Tally}
 use Rattle.rounds.specs.Addresses.{addresses, part1}
-use Rattle.rounds.specs.Exact.{exact, tally}
+use Rattle.rounds.specs.InWords.{Words, kept, inWords, tally}
 use Rattle.rounds.proofs.CountLaws.{addresses-add}
 use Rattle.rounds.proofs.addresses.read_all.Statement.{statement}
 use Rattle.rounds.proofs.addresses.read_all.Tie as tie
 
 abbrev Inv-loop : tie.InvT-loop
-Inv-loop area table q₀ i₀ q i =
+Inv-loop state₀ area table q₀ i₀ state q i =
     (i ≤ 11)
     × (q .errors ≤ q₀ .errors + i)
-    × (part1 exact table (tally q₀ area) ≡ each (addresses exact table) i (11 - i) (tally q area))
+    × (part1 inWords table (tally q₀ (kept state₀ area)) ≡ each (addresses inWords table) i (11 - i) (tally q (kept state area)))
 
 abbrev μ-loop : tie.MeasureT-loop
-μ-loop area table q₀ i₀ q i = 11 - i
+μ-loop state₀ area table q₀ i₀ state q i = 11 - i
 
 goes-on : tie.Need-loop-again Inv-loop μ-loop
 goes-on c =
-    let l = c .before .before .loop in
-    let a = c .before .before .before .before .args in
-    let t : Tally Machine = tally (l .q) (a .area .now) in
-    let step = addresses exact (a .table .now) in
-    let same = ap (λ (u : Tally Machine). u .errors) (c .address .ensures) in (
+    let l = c .before .before .before .loop in
+    let a = c .before .before .before .before .before .args in
+    let t : Tally Words = tally (l .q) (kept (l .state) (a .area .now)) in
+    let step = addresses inWords (a .table .now) in
+    let e = c .address .ensures in
+    let same = ap (λ (u : Tally Words). u .errors) e in (
       omega arith,
-      omega (arith, same, addresses-add exact (a .table .now) t (l .i) .errors),
+      omega (arith, same, addresses-add inWords (a .table .now) t (l .i) .errors),
       l .inv .2
-          ∙ each-next step (l .i) 11 t (c .before .loop-test .taken)
-          ∙ ap (each step (l .i + 1) (11 - (l .i + 1))) (sym (c .address .ensures)),
+          ∙ each-next step (l .i) 11 t (c .before .before .loop-test .taken)
+          ∙ ap (each step (l .i + 1) (11 - (l .i + 1))) (sym e),
     )
 
 pub read-all-spec : {M : Type 1} → statement M
@@ -52,4 +51,4 @@ read-all-spec =
     (λ c. let l = c .before .loop in
     let a = c .before .before .before .args in
     sym (l .inv .2
-    ∙ each-done (addresses exact (a .table .now)) (l .i) 11 (tally (l .q) (a .area .now)) (c .loop-test .left))))
+    ∙ each-done (addresses inWords (a .table .now)) (l .i) 11 (tally (l .q) (kept (l .state) (a .area .now))) (c .loop-test .left))))

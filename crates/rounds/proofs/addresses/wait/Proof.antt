@@ -1,7 +1,6 @@
 -- `rounds::addresses::wait` meets its contract.
 -- Assumes nothing.
 use borrow.Author.Needs.{needs}
-use mathlib.Core.Path.{_∙_}
 use Rattle.rounds.specs.Addresses.{waits}
 use Rattle.rounds.proofs.addresses.wait.Statement.{statement}
 use Rattle.rounds.proofs.addresses.wait.Tie as tie
@@ -13,5 +12,5 @@ wait-spec =
     (tie.spec
     (λ c κs. search needs)
     (λ c κs. search needs)
-    (λ c. c .without-front .ensures ∙ rw (c .before .before .with-mode .ensures, c .before .if1 .taken))
-    (λ c. rw (c .before .with-mode .ensures, c .if1 .left)))
+    (λ c. rw (c .drop-front .ensures, c .before .before .before .set-mode .ensures, c .before .before .if1 .taken))
+    (λ c. rw (c .before .set-mode .ensures, c .if1 .left)))

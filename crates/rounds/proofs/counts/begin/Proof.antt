@@ -10,4 +10,4 @@ unfolding begun
 begin-spec =
     tie.close
     (tie.spec
-    (λ c. λ area. refl))
+    (λ c. λ w. refl))

@@ -12,4 +12,4 @@ count-moved-spec =
     tie.close
     (tie.spec
     (λ c. search needs)
-    (λ c. λ area. refl))
+    (λ c. λ w. refl))

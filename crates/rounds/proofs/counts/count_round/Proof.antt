@@ -2,15 +2,14 @@
 -- Assumes nothing.
 use borrow.Author.Needs.{needs}
 use mathlib.Core.Path.{refl}
-use Rattle.rounds.specs.Rounds.{rounds}
 use Rattle.rounds.specs.Acts.{countRound}
 use Rattle.rounds.proofs.counts.count_round.Statement.{statement}
 use Rattle.rounds.proofs.counts.count_round.Tie as tie
 
 pub count-round-spec : {M : Type 1} → statement M
-unfolding rounds countRound
+unfolding countRound
 count-round-spec =
     tie.close
     (tie.spec
     (λ c. search needs)
-    (λ c. λ area. refl))
+    (λ c. λ w. refl))

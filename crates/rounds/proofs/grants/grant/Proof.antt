@@ -2,6 +2,7 @@
 -- Assumes nothing.
 use borrow.Author.Needs.{needs}
 use mathlib.Core.Path.{_∙_}
+use Rattle.rounds.specs.InWords.{kept}
 use Rattle.rounds.specs.Grants.{granted}
 use Rattle.rounds.proofs.grants.grant.Statement.{statement}
 use Rattle.rounds.proofs.grants.grant.Tie as tie
@@ -14,4 +15,4 @@ grant-spec =
     (λ c κs. search needs)
     (λ c κs. search needs)
     (λ c κs. search needs)
-    (λ c. λ area. c .changed-to .ensures area area ∙ rw (c .before .with-mode .ensures, c .before .before .with-output .ensures)))
+    (λ c. λ area. c .mark .ensures (kept (c .before .before .before .before .before .args .state .now) area) _ ∙ rw (c .before .set-mode .ensures, c .before .before .before .set-output .ensures)))

@@ -1,7 +1,8 @@
 -- `rounds::grants::waits_for` meets its contract.
 -- Assumes nothing.
 use borrow.Author.Needs.{needs}
-use mathlib.Core.Path.{sym, _∙_}
+use mathlib.Core.Path.{_∙_}
+use mathlib.Core.Path.{sym}
 use Rattle.rounds.proofs.grants.waits_for.Statement.{statement}
 use Rattle.rounds.proofs.grants.waits_for.Tie as tie
 

@@ -1,7 +1,6 @@
 -- `rounds::moves::carry` meets its contract.
 -- Assumes nothing.
 use borrow.Author.Needs.{needs}
-use mathlib.Core.Path.{_∙_}
 use Rattle.rounds.specs.Moves.{carries}
 use Rattle.rounds.proofs.moves.carry.Statement.{statement}
 use Rattle.rounds.proofs.moves.carry.Tie as tie
@@ -15,4 +14,4 @@ carry-spec =
     (λ c κs. search needs)
     (λ c κs. search needs)
     (λ c. search needs)
-    (λ c. c .without-front .ensures ∙ rw (c .before .before .before .before .with-behind .ensures)))
+    (λ c. rw (c .drop-front .ensures, c .before .before .before .before .before .append .ensures .0, c .before .before .before .before .before .append .ensures .1)))

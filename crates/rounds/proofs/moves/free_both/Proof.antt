@@ -13,4 +13,4 @@ free-both-spec =
     (λ c κs. search needs)
     (λ c κs. search needs)
     (λ c κs. search needs)
-    (λ c. λ area. rw (c .with-mode .ensures, c .before .with-output .ensures, c .before .before .output-at .ensures)))
+    (λ c. λ area. rw (c .set-mode .ensures, c .before .before .set-output .ensures, c .before .before .before .before .output-at .ensures)))

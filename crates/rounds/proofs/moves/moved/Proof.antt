@@ -3,6 +3,7 @@
 use borrow.Author.Needs.{needs}
 use mathlib.Core.Path.{_∙_}
 use Rattle.rounds.specs.Moves.{moves}
+use Rattle.rounds.specs.InWords.{kept}
 use Rattle.rounds.proofs.moves.moved.Statement.{statement}
 use Rattle.rounds.proofs.moves.moved.Tie as tie
 
@@ -18,14 +19,9 @@ moved-spec =
     (λ c κs. search needs)
     (λ c κs. search needs)
     (λ c. search needs)
-    (λ c.
-    let before = c .before .before .before .before .before .before .before .before .before .before .before .args .area .now in
-    let moved = c .before .before .before .before .before .before .before .carry in
-    c .changed-to .ensures before (moved .last .1 .0)
-    ∙ rw (c .before .free-both .ensures (moved .last .1 .0), c .before .before .before .before .count-moved .ensures before, moved .ensures, ← c .before .before .before .is-end .ensures, c .before .before .if1 .taken))
+    (λ c. let before = kept (c .before .before .before .before .before .before .before .before .before .before .before .before .args .state .now) (c .before .before .before .before .before .before .before .before .before .before .before .before .args .area .now) in
+    c .mark .ensures before _
+    ∙ rw (c .before .free-both .ensures (c .before .before .before .before .before .before .before .before .carry .last .1 .0), c .before .before .before .before .before .before .before .before .carry .ensures, c .before .before .before .before .before .count-moved .ensures before, ← c .before .before .before .before .is-end .ensures, c .before .before .before .if1 .taken))
     (λ c. search needs)
-    (λ c.
-    let before = c .before .before .before .before .before .before .before .before .before .before .args .area .now in
-    let moved = c .before .before .before .before .before .before .carry in
-    c .changed-to2 .ensures before (moved .last .1 .0)
-    ∙ rw (c .before .before .before .count-moved .ensures before, moved .ensures, ← c .before .before .is-end .ensures, c .before .if1 .left)))
+    (λ c. let before = kept (c .before .before .before .before .before .before .before .before .before .before .args .state .now) (c .before .before .before .before .before .before .before .before .before .before .args .area .now) in
+    c .mark2 .ensures before _ ∙ rw (c .before .before .before .before .before .before .carry .ensures, c .before .before .before .count-moved .ensures before, ← c .before .before .is-end .ensures, c .before .if1 .left)))

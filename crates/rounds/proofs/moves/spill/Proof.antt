@@ -13,5 +13,5 @@ spill-spec =
     (λ c κs. search needs)
     (λ c κs. search needs)
     (λ c κs. search needs)
-    (λ c. rw (c .with-mode .ensures, ← c .before .before .before .without-front .ensures, ← c .before .before .is-end .ensures, c .before .if1 .taken))
-    (λ c. rw (c .before .before .without-front .ensures, ← c .before .is-end .ensures, c .if1 .left)))
+    (λ c. rw (c .set-mode .ensures, c .before .before .before .before .drop-front .ensures, ← c .before .before .before .is-end .ensures, c .before .before .if1 .taken))
+    (λ c. rw (c .before .before .drop-front .ensures, ← c .before .is-end .ensures, c .if1 .left)))

@@ -3,6 +3,7 @@
 use borrow.Author.Needs.{needs}
 use mathlib.Core.Path.{_∙_}
 use Rattle.rounds.specs.Moves.{spillsOne}
+use Rattle.rounds.specs.InWords.{kept}
 use Rattle.rounds.proofs.moves.spill_one.Statement.{statement}
 use Rattle.rounds.proofs.moves.spill_one.Tie as tie
 
@@ -16,6 +17,5 @@ spill-one-spec =
     (λ c κs. search needs)
     (λ c κs. search needs)
     (λ c κs. search needs)
-    (λ c.
-    let area = c .before .before .before .before .before .before .before .args .area .now in
-    c .changed-to .ensures area area ∙ rw (c .before .spill .ensures, c .before .before .front-at .ensures, ← c .before .before .before .before .empty-at .ensures, c .before .before .before .if1 .left)))
+    (λ c. c .mark .ensures (kept (c .before .before .before .before .before .before .before .before .before .args .state .now) (c .before .before .before .before .before .before .before .before .before .args .area .now)) _
+    ∙ rw (c .before .spill .ensures, c .before .before .before .front-at .ensures, ← c .before .before .before .before .before .before .empty-at .ensures, c .before .before .before .before .before .if1 .left)))

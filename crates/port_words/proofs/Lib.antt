@@ -1,0 +1,4 @@
+pub mod ListedLaws
+pub mod PlaceWords
+pub mod LayoutLaws
+pub mod KeepsProof

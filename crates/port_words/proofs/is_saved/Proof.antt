@@ -1,0 +1,15 @@
+-- `port_words::is_saved` meets its contract.
+-- Assumes nothing.
+use borrow.Author.Needs.{needs}
+use mathlib.Core.Path.{sym, _∙_}
+use Rattle.port_words.proofs.is_saved.Statement.{statement}
+use Rattle.port_words.proofs.is_saved.Tie as tie
+
+pub is-saved-spec : {M : Type 1} → statement M
+is-saved-spec =
+    tie.close
+    (tie.spec
+    (λ c κs. search needs)
+    (λ c. search needs)
+    (λ c κs. search needs)
+    (λ c. c .same .ensures ∙ sym (rw (c .before .before .before .saved .ensures, c .before .own .given .1))))
