@@ -1,15 +1,15 @@
 -- A decoder's words give it back, phase by phase; a refused call hands the decoder back, and its words are those that it was
 -- loaded from.
 -- Assumes nothing.
-use Prim.Native.Nat.{ℕ, _%_, _<_}
+use Prim.Native.Nat.{ℕ}
 use mathlib.Core.Path.{_≡_, refl, sym}
 use mathlib.Core.Bool.{Bool, true, false}
 use mathlib.Core.List.{List}
-use native.Mathlib.Omega.{arith}
 use lib.Dec.{eqb}
 use Rattle.vocabulary.specs.Choice.{pick}
 use Rattle.vocabulary.specs.declared.Token.the-variants.{Null, Fct, NChar, TimeCode}
-use Rattle.words.specs.Words.{Stays, truth, truthWord}
+use Rattle.words.specs.Words.{Stays, truth}
+use Rattle.words.proofs.NumberLaws.{byte-back, truth-back}
 use Rattle.words.proofs.SameLaws.{same-is}
 use Rattle.words.proofs.StayLaws.{pick-stays}
 use Rattle.words.proofs.TokenLaws.{token-back}
@@ -25,13 +25,6 @@ use Rattle.characters.specs.declared.decoder.Step.{Step}
 use Rattle.character_words.specs.DecoderWords.{waitingNumber, waitingValue, waitingOf, decoderWords, decoderFrom}
 use Rattle.character_words.specs.DecoderWords.{decoderOf, decoded, noDecoder, bitLeft, tickLeft, isDecoder}
 use Rattle.character_words.specs.DecoderWords.{FitsWaiting, FitsDecoder, KeepsDecoders}
-
-byte-back : (n : ℕ) → n < 256 → n % 256 ≡ n
-byte-back n h = omega arith
-
-truth-back : (b : Bool) → truth (truthWord b) ≡ b
-truth-back true = refl
-truth-back false = refl
 
 waiting-back : (w : Waiting) → FitsWaiting w → waitingOf (waitingNumber w) (waitingValue w) ≡ w
 unfolding waitingOf

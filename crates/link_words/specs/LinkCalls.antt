@@ -147,3 +147,23 @@ unfoldable pub offerLeft : List ℕ → ℕ → Left
 offerLeft words code =
     pick (isLink words) (offered (offerAnswer (linkOf words) code))
     (record { refusal = number STATE; state = words; out = 0 ∷ [] })
+
+-- "State, stores and the time record stay", whichever call is refused
+abbrev pub StaysWith : List ℕ → List ℕ → LinkLeft → Type 0
+StaysWith words places left = (left .refusal ≡ 0 → ⊥) → (left .state ≡ words) × (left .places ≡ places)
+
+abbrev pub ReceiptStays : List ℕ → List ℕ → List ℕ → ReceiveLeft → Type 0
+ReceiptStays words rx time left =
+    (left .refusal ≡ 0 → ⊥) → (left .state ≡ words) × (left .rx ≡ rx) × (left .time ≡ time)
+
+pub record LinkStays : Type 0 where
+  pub tick : (words rx tx : List ℕ) → StaysWith words rx (tickLeft words rx tx)
+  pub reset : (words rx tx : List ℕ) → StaysWith words rx (resetLeft words rx tx)
+  pub fault : (words rx tx : List ℕ) (kind : ℕ) → StaysWith words rx (faultLeft words rx tx kind)
+  pub control : (words rx tx : List ℕ) (c : Controls) → StaysWith words rx (controlLeft words rx tx c)
+  pub send : (words rx tx : List ℕ) → StaysWith words rx (sendLeft words rx tx)
+  pub receive : (words rx tx time : List ℕ) (kind value : ℕ) →
+      ReceiptStays words rx time (receiveLeft words rx tx time kind value)
+  pub put : (words tx : List ℕ) (n : ℕ) → StaysWith words tx (putLeft words tx n)
+  pub take : (words rx : List ℕ) → Stays words (takeLeft words rx)
+  pub offer : (words : List ℕ) (code : ℕ) → Stays words (offerLeft words code)

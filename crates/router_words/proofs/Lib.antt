@@ -1,1 +1,3 @@
 pub mod ListedLaws
+pub mod RouterLaws
+pub mod StayLaws
