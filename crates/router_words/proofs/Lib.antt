@@ -1,3 +1,4 @@
 pub mod ListedLaws
+pub mod PlaceLaws
 pub mod RouterLaws
 pub mod StayLaws

@@ -6,7 +6,7 @@ use mathlib.Core.List.{List, [], _∷_, _++_, append-nil}
 use native.Mathlib.Omega.{arith}
 use lib.ListN.{length, getD, set, replicate}
 use lib.Seq.{set-at, append-snoc}
-use Rattle.router_words.specs.RouterWords.{listed}
+use Rattle.router_words.specs.RouterWords.{listed, filled}
 
 module _ {A : Type 0} (f : ℕ → A) where
   pub length-listed : (from count : ℕ) → length (listed f from count) ≡ count
@@ -29,11 +29,7 @@ module _ {A : Type 0} (f : ℕ → A) where
   getD-listed from (suc count) (suc i) d h =
       getD-listed (from + 1) count i d (omega (arith, h)) ∙ ap f (let e : from + 1 + i ≡ from + suc i = omega arith in e)
 
-  -- `n` places of which the first `p` are filled
-  abbrev pub filled : A → ℕ → ℕ → List A
-  filled z n p = listed f 0 p ++ replicate (n - p) z
-
-  pub fill-next : (z : A) (n p : ℕ) → p < n → set (filled z n p) p (f p) ≡ filled z n (p + 1)
+  pub fill-next : (z : A) (n p : ℕ) → p < n → set (filled f z n p) p (f p) ≡ filled f z n (p + 1)
   fill-next z n p h =
       ap (λ (k : ℕ). set (listed f 0 p ++ replicate k z) p (f p)) (let e : n - p ≡ suc (n - (p + 1)) = omega (arith, h) in e)
       ∙ set-at (listed f 0 p) z (replicate (n - (p + 1)) z) (f p) p (length-listed 0 p)
@@ -44,12 +40,25 @@ module _ {A : Type 0} (f : ℕ → A) where
       snoc =
           ap (λ (k : ℕ). listed f 0 p ++ (f k ∷ [])) (let e : p ≡ 0 + p = omega arith in e) ∙ sym (listed-snoc 0 p)
 
-  pub fill-starts : (z : A) (n : ℕ) → replicate n z ≡ filled z n 0
+  pub fill-starts : (z : A) (n : ℕ) → replicate n z ≡ filled f z n 0
   unfolding listed
   fill-starts z n = ap (λ (k : ℕ). replicate k z) (let e : n ≡ n - 0 = omega arith in e)
 
-  pub fill-ends : (z : A) (n p : ℕ) → n ≤ p → p ≤ n → filled z n p ≡ listed f 0 n
+  pub fill-ends : (z : A) (n p : ℕ) → n ≤ p → p ≤ n → filled f z n p ≡ listed f 0 n
   fill-ends z n p h k =
       ap (λ (m : ℕ). listed f 0 p ++ replicate m z) (let e : n - p ≡ 0 = omega (arith, h) in e)
       ∙ append-nil (listed f 0 p)
       ∙ ap (listed f 0) (let e : p ≡ n = omega (arith, h, k) in e)
+
+  -- two and three steps at once
+  pub fill-two : (z : A) (n q : ℕ) (a b : A) → q + 1 < n → a ≡ f q → b ≡ f (q + 1) →
+      set (set (filled f z n q) q a) (q + 1) b ≡ filled f z n (q + 2)
+  fill-two z n q a b h e₀ e₁ =
+      rw (e₀, e₁, fill-next z n q (omega (arith, h)))
+      (fill-next z n (q + 1) h ∙ ap (filled f z n) (let e : q + 1 + 1 ≡ q + 2 = omega arith in e))
+
+  pub fill-three : (z : A) (n q : ℕ) (a b c : A) → q + 2 < n → a ≡ f q → b ≡ f (q + 1) → c ≡ f (q + 2) →
+      set (set (set (filled f z n q) q a) (q + 1) b) (q + 2) c ≡ filled f z n (q + 3)
+  fill-three z n q a b c h e₀ e₁ e₂ =
+      rw (fill-two z n q a b (omega (arith, h)) e₀ e₁, e₂)
+      (fill-next z n (q + 2) h ∙ ap (filled f z n) (let e : q + 2 + 1 ≡ q + 3 = omega arith in e))

@@ -6,7 +6,7 @@ use mathlib.Core.List.{List}
 use native.Mathlib.Omega.{arith}
 use lib.ListN.{length, getD}
 use lib.Seq.{ext-getD}
-use borrow.Author.Tests.{lt-ltb, le-ltb}
+use borrow.Author.Tests.{lt-ltb}
 use Rattle.words.specs.Words.{wordAt, storeWords, storeOf}
 use Rattle.words.proofs.NumberLaws.{narrow-back, truth-back, store-back}
 use Rattle.store.specs.Changes.{freshStore}
@@ -22,6 +22,7 @@ use Rattle.router_words.specs.RouterWords.{listed, modeWords, outputWord
 use Rattle.router_words.specs.RouterWords.{ownerOf, inputIn, outputIn, storeIn, routerOf, FitsMode, FitsOwner, FitsRouter}
 use Rattle.router_words.specs.RouterWords.{KeepsRouters}
 use Rattle.router_words.proofs.ListedLaws.{length-listed, getD-listed}
+use Rattle.router_words.proofs.PlaceLaws.{mode-place, output-place, store-place}
 
 listed-at : {A : Type 0} (f : ℕ → A) (n i : ℕ) (d : A) → i < n → getD (listed f 0 n) i d ≡ f i
 listed-at f n i d h = getD-listed f 0 n i d h ∙ ap f (let e : 0 + i ≡ i = omega arith in e)
@@ -32,27 +33,17 @@ word-at : (r : Router) (k : ℕ) → k < 110 → wordAt (routerWords r) k ≡ ro
 unfolding routerWords
 word-at r k h = listed-at (routerWord r) 110 k 0 h
 
-mode-word : (r : Router) (p i k : ℕ) → p < 11 → i < 3 → k ≡ 3 * p + i →
-    wordAt (routerWords r) k ≡ wordAt (modeWords (modeAt r p)) i
-mode-word r p i k h j e =
-    let q : k / 3 ≡ p = omega (arith, e, j) in
-    let m : k % 3 ≡ i = omega (arith, e, j) in
-    word-at r k (omega (arith, e, h, j)) ∙ rw (lt-ltb k 33 (omega (arith, e, h, j)), q, m)
+module _ (r : Router) where
+  mode-word : (p i k : ℕ) → p < 11 → i < 3 → k ≡ 3 * p + i → wordAt (routerWords r) k ≡ wordAt (modeWords (modeAt r p)) i
+  mode-word p i k h j e = word-at r k (omega (arith, e, h, j)) ∙ mode-place r p i k h j e
 
-output-word : (r : Router) (p i k : ℕ) → p < 11 → i < 3 → k ≡ 3 * p + 33 + i →
-    wordAt (routerWords r) k ≡ wordAt (outputWords (outputAt r p .owner) (outputAt r p .last)) i
-output-word r p i k h j e =
-    let q : (k - 33) / 3 ≡ p = omega (arith, e, j) in
-    let m : k % 3 ≡ i = omega (arith, e, j) in
-    word-at r k (omega (arith, e, h, j))
-    ∙ rw (le-ltb k 33 (omega (arith, e)), lt-ltb k 66 (omega (arith, e, h, j)), q, m)
+  output-word : (p i k : ℕ) → p < 11 → i < 3 → k ≡ 3 * p + 33 + i →
+      wordAt (routerWords r) k ≡ wordAt (outputWords (outputAt r p .owner) (outputAt r p .last)) i
+  output-word p i k h j e = word-at r k (omega (arith, e, h, j)) ∙ output-place r p i k h j e
 
-store-word : (r : Router) (n i k : ℕ) → n < 22 → i < 2 → k ≡ 2 * n + 66 + i →
-    wordAt (routerWords r) k ≡ wordAt (storeWords (storeAt r n)) i
-store-word r n i k h j e =
-    let q : (k - 66) / 2 ≡ n = omega (arith, e, j) in
-    let m : k % 2 ≡ i = omega (arith, e, j) in
-    word-at r k (omega (arith, e, h, j)) ∙ rw (le-ltb k 33 (omega (arith, e)), le-ltb k 66 (omega (arith, e)), q, m)
+  store-word : (n i k : ℕ) → n < 22 → i < 2 → k ≡ 2 * n + 66 + i →
+      wordAt (routerWords r) k ≡ wordAt (storeWords (storeAt r n)) i
+  store-word n i k h j e = word-at r k (omega (arith, e, h, j)) ∙ store-place r n i k h j e
 
 -- what they give back
 

@@ -4,8 +4,8 @@
 use Prim.Native.Nat.{ℕ, zero, suc, _+_, _-_, _*_, _/_, _%_, _^_, _<_}
 use mathlib.Core.Path.{_≡_}
 use mathlib.Core.Bool.{Bool}
-use mathlib.Core.List.{List, [], _∷_}
-use lib.ListN.{length}
+use mathlib.Core.List.{List, [], _∷_, _++_}
+use lib.ListN.{length, replicate}
 use lib.Dec.{eqb, ltb}
 use Rattle.vocabulary.specs.Choice.{pick}
 use Rattle.words.specs.Words.{wordAt, truthWord, truth, narrow, same, storeWords, storeOf}
@@ -24,6 +24,10 @@ use Rattle.ports.specs.declared.Router.{Router}
 unfoldable pub listed : {A : Type 0} → (ℕ → A) → ℕ → ℕ → List A
 listed f from zero = []
 listed f from (suc count) = f from ∷ listed f (from + 1) count
+
+-- `n` places of which the first `p` hold what is listed, the others z
+abbrev pub filled : {A : Type 0} → (ℕ → A) → A → ℕ → ℕ → List A
+filled f z n p = listed f 0 p ++ replicate (n - p) z
 
 -- saved: the value of a waiting input is its set of ports, of a routed one its output
 abbrev pub modeWords : Mode → List ℕ

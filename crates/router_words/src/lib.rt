@@ -1,8 +1,8 @@
 // The 110 words of a router.
 ghost use mathlib.Core.Path.{_≡_};
 ghost use Prim.Native.Nat.{_<_};
-ghost use Rattle.words.specs.Words.{wordAt, same, storeWords};
-ghost use Rattle.router_words.specs.RouterWords.{listed, modeWords, outputWords, routerWord, routerWords};
+ghost use Rattle.words.specs.Words.{same};
+ghost use Rattle.router_words.specs.RouterWords.{listed, filled, modeWords, outputWords, routerWord, routerWords};
 ghost use Rattle.router_words.specs.RouterWords.{wantedOf, modeOf, ownerOf, inputIn, outputIn, storeIn, routerOf};
 use ports::Input;
 use ports::Mode;
@@ -43,55 +43,63 @@ fn output_words(owner: Owner, last: usize) -> [u32; 3]
     }
 }
 
-fn mode_word(m: Mode, i: usize) -> u32
-    requires { ⌜ i < 3 ⌝ }
-    ensures { λ r. ⌜ r ≡ wordAt (modeWords m) i ⌝ }
+fn save_inputs(r: Router) -> [u32; 110]
+    ensures { λ w. ⌜ w ≡ filled (routerWord r) 0 110 33 ⌝ }
 {
-    let row = mode_words(m);
-    row[i]
-}
-
-fn output_word(out: Output, i: usize) -> u32
-    requires { ⌜ i < 3 ⌝ }
-    ensures { λ r. ⌜ r ≡ wordAt (outputWords (out .owner) (out .last)) i ⌝ }
-{
-    let owner = out.owner;
-    let row = output_words(owner, out.last);
-    row[i]
-}
-
-fn store_word(s: Store, i: usize) -> u32
-    requires { ⌜ i < 2 ⌝ }
-    ensures { λ r. ⌜ r ≡ wordAt (storeWords s) i ⌝ }
-{
-    let row = words::store_words(s);
-    row[i]
-}
-
-fn router_word(r: Router, k: usize) -> u32
-    ensures { λ w. ⌜ w ≡ routerWord r k ⌝ }
-{
-    if k < 33 {
-        mode_word(ports::mode_at(r, k / 3), k % 3)
-    } else {
-        if k < 66 {
-            output_word(ports::output_at(r, (k - 33) / 3), k % 3)
-        } else {
-            store_word(ports::store_at(r, (k - 66) / 2), k % 2)
-        }
+    let mut words = [0; 110];
+    let mut p = 0;
+    while p < 11 {
+        let x = r.inputs[p];
+        let mode = x.mode;
+        let row = mode_words(mode);
+        let at = 3 * p;
+        words[at] = row[0];
+        words[at + 1] = row[1];
+        words[at + 2] = row[2];
+        p = p + 1;
     }
+    words
+}
+
+fn save_outputs(r: Router, inputs: [u32; 110]) -> [u32; 110]
+    requires { ⌜ inputs ≡ filled (routerWord r) 0 110 33 ⌝ }
+    ensures { λ w. ⌜ w ≡ filled (routerWord r) 0 110 66 ⌝ }
+{
+    let mut words = inputs;
+    let mut p = 0;
+    while p < 11 {
+        let x = r.outputs[p];
+        let owner = x.owner;
+        let row = output_words(owner, x.last);
+        let at = 3 * p + 33;
+        words[at] = row[0];
+        words[at + 1] = row[1];
+        words[at + 2] = row[2];
+        p = p + 1;
+    }
+    words
+}
+
+fn save_stores(r: Router, ports: [u32; 110]) -> [u32; 110]
+    requires { ⌜ ports ≡ filled (routerWord r) 0 110 66 ⌝ }
+    ensures { λ w. ⌜ w ≡ filled (routerWord r) 0 110 110 ⌝ }
+{
+    let mut words = ports;
+    let mut k = 0;
+    while k < 22 {
+        let row = words::store_words(r.stores[k]);
+        let at = 2 * k + 66;
+        words[at] = row[0];
+        words[at + 1] = row[1];
+        k = k + 1;
+    }
+    words
 }
 
 pub fn saved(r: Router) -> [u32; 110]
     ensures { λ w. ⌜ w ≡ routerWords r ⌝ }
 {
-    let mut words = [0; 110];
-    let mut k = 0;
-    while k < 110 {
-        words[k] = router_word(r, k);
-        k = k + 1;
-    }
-    words
+    save_stores(r, save_outputs(r, save_inputs(r)))
 }
 
 fn wanted_of(value: u32, high: u32) -> Wanted

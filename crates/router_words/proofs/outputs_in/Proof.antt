@@ -5,8 +5,8 @@ use mathlib.Core.Path.{_≡_, sym, _∙_}
 use Prim.Native.Nat.{_-_, _≤_}
 use native.Mathlib.Omega.{arith}
 use Rattle.ports.specs.Ports.{free}
-use Rattle.router_words.specs.RouterWords.{outputIn}
-use Rattle.router_words.proofs.ListedLaws.{filled, fill-starts, fill-next, fill-ends}
+use Rattle.router_words.specs.RouterWords.{filled, outputIn}
+use Rattle.router_words.proofs.ListedLaws.{fill-starts, fill-next, fill-ends}
 use Rattle.router_words.proofs.outputs_in.Statement.{statement}
 use Rattle.router_words.proofs.outputs_in.Tie as tie
 
