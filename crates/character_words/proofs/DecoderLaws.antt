@@ -10,7 +10,7 @@ use Rattle.vocabulary.specs.Choice.{pick}
 use Rattle.vocabulary.specs.declared.Token.the-variants.{Null, Fct, NChar, TimeCode}
 use Rattle.words.specs.Words.{Stays, truth}
 use Rattle.words.proofs.NumberLaws.{byte-back, truth-back}
-use Rattle.words.proofs.SameLaws.{same-is}
+use Rattle.words.proofs.SameLaws.{same-is, same-itself}
 use Rattle.words.proofs.StayLaws.{pick-stays}
 use Rattle.words.proofs.TokenLaws.{token-back}
 use Rattle.characters.specs.Decoder.{bitStep, tickStep}
@@ -47,6 +47,9 @@ decoder-back (Heard (Control escape) silent) (s, h) = rw (byte-back silent s, tr
 decoder-back (Heard (Second escape a) silent) (s, h) = rw (byte-back silent s, truth-back escape, truth-back a)
 decoder-back Stopped h = refl
 
+is-decoder : (d : Decoder) → FitsDecoder d → isDecoder (decoderWords d) ≡ true
+is-decoder d fits = rw (decoder-back d fits) (same-itself (decoderWords d))
+
 decoded-stays : (words : List ℕ) (d : Decoder) (s : Step) (n : ℕ) (test : Bool) → decoderWords d ≡ words →
     Stays words (decoded (pick test (decodeAccepted s) (decodeRefused d n)))
 unfolding decoded decodeAccepted decodeRefused
@@ -71,4 +74,5 @@ tick-stays words =
     (λ refused. refl)
 
 pub keeps-decoders : KeepsDecoders
-keeps-decoders = record { back = decoder-back; bit-stays = bit-stays; tick-stays = tick-stays }
+keeps-decoders =
+    record { back = decoder-back; is-decoder = is-decoder; bit-stays = bit-stays; tick-stays = tick-stays }

@@ -9,14 +9,14 @@ use lib.Dec.{eqb}
 use Rattle.vocabulary.specs.Choice.{pick}
 use Rattle.words.specs.Words.{Stays}
 use Rattle.words.specs.Arguments.{tokenOf}
-use Rattle.words.proofs.SameLaws.{same-is}
+use Rattle.words.proofs.SameLaws.{same-is, same-itself}
 use Rattle.words.proofs.StayLaws.{pick-stays}
 use Rattle.characters.specs.Encoder.{sent}
 use Rattle.characters.specs.Refusals.{encoderRefusal}
 use Rattle.characters.specs.Calls.{encodeAnswer, encodeRefused}
 use Rattle.characters.specs.declared.encoder.Encoder.{Encoder}
 use Rattle.characters.specs.declared.encoder.Encoded.{Encoded}
-use Rattle.character_words.specs.EncoderWords.{encoderWords, encoderOf, encoded, noEncoder, encodeLeft, KeepsEncoders}
+use Rattle.character_words.specs.EncoderWords.{encoderWords, encoderOf, isEncoder, encoded, noEncoder, encodeLeft, KeepsEncoders}
 
 odd-back : (b : Bool) → encoderOf (encoderWords (record { odd = b })) ≡ record { odd = b }
 unfolding encoderOf
@@ -38,5 +38,8 @@ stays words kind value =
     (eqb (encoderRefusal (tokenOf kind value)) 0) (sym (same-is words _ p)) refl)
     (λ refused. refl)
 
+is-encoder : (e : Encoder) → isEncoder (encoderWords e) ≡ true
+is-encoder e = rw (odd-back (e .odd)) (same-itself (encoderWords e))
+
 pub keeps-encoders : KeepsEncoders
-keeps-encoders = record { back = λ e. odd-back (e .odd); stays = stays }
+keeps-encoders = record { back = λ e. odd-back (e .odd); is-encoder = is-encoder; stays = stays }

@@ -3,7 +3,7 @@
 -- Assumes nothing.
 use Prim.Native.Nat.{ℕ, _<_}
 use mathlib.Core.Path.{_≡_}
-use mathlib.Core.Bool.{Bool}
+use mathlib.Core.Bool.{Bool, true}
 use mathlib.Core.List.{List, [], _∷_}
 use lib.Dec.{eqb}
 use Rattle.vocabulary.specs.Choice.{pick}
@@ -106,8 +106,9 @@ FitsDecoder (Heard p silent) = (silent < 256) × FitsPhase p
 FitsDecoder Stopped = Unit {0}
 
 pub record KeepsDecoders : Type 0 where
-  -- loading what was saved gives it back
+  -- loading what was saved gives it back, so what was saved is a decoder
   pub back : (d : Decoder) → FitsDecoder d → decoderOf (decoderWords d) ≡ d
+  pub is-decoder : (d : Decoder) → FitsDecoder d → isDecoder (decoderWords d) ≡ true
   -- a refused call leaves the words as they were
   pub bit-stays : (words : List ℕ) (b : ℕ) → Stays words (bitLeft words b)
   pub tick-stays : (words : List ℕ) → Stays words (tickLeft words)
