@@ -1,5 +1,5 @@
--- A decoder's words give it back, phase by phase; a refused call hands the decoder back, and its words are those that it was
--- loaded from.
+-- A decoder's words give it back, phase by phase; a refused call hands the decoder back, and its words are those that it
+-- was loaded from.
 -- Assumes nothing.
 use Prim.Native.Nat.{ℕ}
 use mathlib.Core.Path.{_≡_, refl, sym}
@@ -63,14 +63,18 @@ bit-stays : (words : List ℕ) (b : ℕ) → Stays words (bitLeft words b)
 unfolding bitLeft bitAnswer noDecoder
 bit-stays words b =
     pick-stays words (isDecoder words) _ _
-    (λ p. decoded-stays words (decoderOf words) (bitStep (decoderOf words) (truth b)) _ (eqb (decoderRefusal (decoderOf words)) 0) (own words p))
+    (λ p.
+    decoded-stays words (decoderOf words) (bitStep (decoderOf words) (truth b)) _
+    (eqb (decoderRefusal (decoderOf words)) 0) (own words p))
     (λ refused. refl)
 
 tick-stays : (words : List ℕ) → Stays words (tickLeft words)
 unfolding tickLeft tickAnswer noDecoder
 tick-stays words =
     pick-stays words (isDecoder words) _ _
-    (λ p. decoded-stays words (decoderOf words) (tickStep (decoderOf words)) _ (eqb (decoderRefusal (decoderOf words)) 0) (own words p))
+    (λ p.
+    decoded-stays words (decoderOf words) (tickStep (decoderOf words)) _
+    (eqb (decoderRefusal (decoderOf words)) 0) (own words p))
     (λ refused. refl)
 
 pub keeps-decoders : KeepsDecoders

@@ -1,5 +1,5 @@
--- The word of an encoder is its one bit; a refused encode hands the encoder back, and its word is the one that it was loaded
--- from.
+-- The word of an encoder is its one bit; a refused encode hands the encoder back, and its word is the one that it was
+-- loaded from.
 -- Assumes nothing.
 use Prim.Native.Nat.{ℕ}
 use mathlib.Core.Path.{_≡_, refl, sym}
@@ -16,7 +16,8 @@ use Rattle.characters.specs.Refusals.{encoderRefusal}
 use Rattle.characters.specs.Calls.{encodeAnswer, encodeRefused}
 use Rattle.characters.specs.declared.encoder.Encoder.{Encoder}
 use Rattle.characters.specs.declared.encoder.Encoded.{Encoded}
-use Rattle.character_words.specs.EncoderWords.{encoderWords, encoderOf, isEncoder, encoded, noEncoder, encodeLeft, KeepsEncoders}
+use Rattle.character_words.specs.EncoderWords.{encoderWords, encoderOf, isEncoder, encoded}
+use Rattle.character_words.specs.EncoderWords.{noEncoder, encodeLeft, KeepsEncoders}
 
 odd-back : (b : Bool) → encoderOf (encoderWords (record { odd = b })) ≡ record { odd = b }
 unfolding encoderOf

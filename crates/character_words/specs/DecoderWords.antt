@@ -1,5 +1,5 @@
--- The seven words of a decoder: its number, the ticks since the last bit, the number and the value of what waits, whether an
--- ESC came before, a bit (the parity bit, or the first of a control body) and the eight places for bits.
+-- The seven words of a decoder: its number, the ticks since the last bit, the number and the value of what waits, whether
+-- an ESC came before, a bit (the parity bit, or the first of a control body) and the eight places for bits.
 -- Assumes nothing.
 use Prim.Native.Nat.{ℕ, _<_}
 use mathlib.Core.Path.{_≡_}

@@ -55,7 +55,13 @@ credit-back l h g = rw (byte-back (l .credit .held .0) h, byte-back (l .credit .
 marks-back : (l : Link) → marksIn (linkWords l) ≡ l .marks
 unfolding marksIn linkWords
 marks-back l =
-    rw (truth-back (l .marks .stored), truth-back (l .marks .sent), truth-back (l .marks .taken), truth-back (l .marks .put), truth-back (l .marks .discarding))
+    rw (
+      truth-back (l .marks .stored),
+      truth-back (l .marks .sent),
+      truth-back (l .marks .taken),
+      truth-back (l .marks .put),
+      truth-back (l .marks .discarding),
+    )
 
 offer-back : (o : Offer) → FitsOffer o → offerOf (offerNumber o) (offerValue o) ≡ o
 offer-back Absent h = refl
@@ -64,7 +70,15 @@ offer-back (Code v) h = rw (byte-back v h)
 link-back : (l : Link) → FitsLink l → linkOf (linkWords l) ≡ l
 unfolding linkOf linkWords
 link-back l fits =
-    rw (stage-back l (fits .timer), controls-back l, credit-back l (fits .held) (fits .given), marks-back l, offer-back (l .offer) (fits .offer), store-back (l .rx) (fits .rx .0) (fits .rx .1), store-back (l .tx) (fits .tx .0) (fits .tx .1))
+    rw (
+      stage-back l (fits .timer),
+      controls-back l,
+      credit-back l (fits .held) (fits .given),
+      marks-back l,
+      offer-back (l .offer) (fits .offer),
+      store-back (l .rx) (fits .rx .0) (fits .rx .1),
+      store-back (l .tx) (fits .tx .0) (fits .tx .1),
+    )
 
 time-back : (t : Time) → t .count < 256 → timeOf (timeWords t) ≡ t
 unfolding timeOf

@@ -17,10 +17,10 @@ use Rattle.time.specs.declared.Time.{Time}
 use Rattle.link.specs.Ends.{End, Settled}
 use Rattle.link.specs.Hosts.{puts, putsPlaces}
 use Rattle.link.specs.Refusals.{putRefusal, takeRefusal, offerRefusal}
-use Rattle.link.specs.Calls.{Outcome, refusedWith, answered, accepted, refused, both, tickOutcome, faultOutcome, controlOutcome}
-use Rattle.link.specs.Calls.{resetOutcome, dispatchOf, dispatched, sendRefused, sendOutcome, receiptOf, received, receiveRefused}
-use Rattle.link.specs.Calls.{receiving, tokenAccepted, receiveOutcome, putAnswer, putPlacesAfter, takeAccepted, takeRefused}
-use Rattle.link.specs.Calls.{takeAnswer, offerAccepted, offerAnswer}
+use Rattle.link.specs.Calls.{Outcome, refusedWith, answered, accepted, refused, both, tickOutcome, faultOutcome}
+use Rattle.link.specs.Calls.{controlOutcome, resetOutcome, dispatchOf, dispatched, sendRefused, sendOutcome}
+use Rattle.link.specs.Calls.{receiptOf, received, receiveRefused, receiving, tokenAccepted, receiveOutcome, putAnswer}
+use Rattle.link.specs.Calls.{putPlacesAfter, takeAccepted, takeRefused, takeAnswer, offerAccepted, offerAnswer}
 use Rattle.link.specs.declared.Controls.{Controls}
 use Rattle.link.specs.declared.Sent.{Sent}
 use Rattle.link.specs.declared.FaultKind.{FaultKind}
@@ -30,10 +30,10 @@ use Rattle.link.specs.declared.Dispatch.{Dispatch}
 use Rattle.link.specs.declared.Receipt.{Receipt}
 use Rattle.link.specs.declared.Link.{Link}
 use Rattle.link_words.specs.LinkWords.{linkWords, linkOf, isLink, timeWords, timeOf, isTime}
-use Rattle.link_words.specs.LinkCalls.{LinkLeft, noLink, endOf, answerLeft, tickLeft, resetLeft, asAnswer, numberedFault}
-use Rattle.link_words.specs.LinkCalls.{faultLeft, controlLeft, dispatchLeft, sendLeft, ReceiveLeft, receiptLeft, noReceipt}
-use Rattle.link_words.specs.LinkCalls.{receiveLeft, putDone, putLeft, taken, takeLeft, offered, offerLeft}
-use Rattle.link_words.specs.LinkCalls.{StaysWith, ReceiptStays, LinkStays}
+use Rattle.link_words.specs.LinkCalls.{LinkLeft, noLink, endOf, answerLeft, tickLeft, resetLeft, asAnswer}
+use Rattle.link_words.specs.LinkCalls.{numberedFault, faultLeft, controlLeft, dispatchLeft, sendLeft}
+use Rattle.link_words.specs.LinkCalls.{ReceiveLeft, receiptLeft, noReceipt, receiveLeft, putDone, putLeft}
+use Rattle.link_words.specs.LinkCalls.{taken, takeLeft, offered, offerLeft, StaysWith, ReceiptStays, LinkStays}
 
 own : (words : List ℕ) → isLink words ≡ true → linkWords (linkOf words) ≡ words
 own words p = sym (same-is words _ p)
@@ -54,17 +54,20 @@ answer-stays words e s n false same nonzero = (same, refl)
 tick-stays : (words rx tx : List ℕ) → StaysWith words rx (tickLeft words rx tx)
 unfolding tickLeft tickOutcome endOf
 tick-stays words rx tx =
-    either words rx (0 ∷ []) (isLink words) _ (λ p. answer-stays words (endOf words rx tx) _ _ (eqb (both (endOf words rx tx)) 0) (own words p))
+    either words rx (0 ∷ []) (isLink words) _
+    (λ p. answer-stays words (endOf words rx tx) _ _ (eqb (both (endOf words rx tx)) 0) (own words p))
 
 reset-stays : (words rx tx : List ℕ) → StaysWith words rx (resetLeft words rx tx)
 unfolding resetLeft resetOutcome endOf
 reset-stays words rx tx =
-    either words rx (0 ∷ []) (isLink words) _ (λ p. answer-stays words (endOf words rx tx) _ _ (eqb (both (endOf words rx tx)) 0) (own words p))
+    either words rx (0 ∷ []) (isLink words) _
+    (λ p. answer-stays words (endOf words rx tx) _ _ (eqb (both (endOf words rx tx)) 0) (own words p))
 
 control-stays : (words rx tx : List ℕ) (c : Controls) → StaysWith words rx (controlLeft words rx tx c)
 unfolding controlLeft controlOutcome endOf
 control-stays words rx tx c =
-    either words rx (0 ∷ []) (isLink words) _ (λ p. answer-stays words (endOf words rx tx) _ _ (eqb (both (endOf words rx tx)) 0) (own words p))
+    either words rx (0 ∷ []) (isLink words) _
+    (λ p. answer-stays words (endOf words rx tx) _ _ (eqb (both (endOf words rx tx)) 0) (own words p))
 
 fault-kept : (words : List ℕ) (e : End) (f : FaultKind) → linkWords (e .link) ≡ words →
     StaysWith words (e .rx) (answerLeft (faultOutcome e f))
@@ -73,7 +76,8 @@ fault-kept words e f same = answer-stays words e _ _ (eqb (both e) 0) same
 
 token-kept : (words : List ℕ) (e : End) (time : Time) (t : Token) (n : ℕ) (test : Bool) → linkWords (e .link) ≡ words →
     StaysWith words (e .rx)
-    (answerLeft (asAnswer (pick test (tokenAccepted e time t) (record { answer = receiveRefused (e .link) time n; rx = e .rx }))))
+    (answerLeft
+    (asAnswer (pick test (tokenAccepted e time t) (record { answer = receiveRefused (e .link) time n; rx = e .rx }))))
 unfolding answerLeft asAnswer tokenAccepted received receiptOf receiveRefused
 token-kept words e time t n true same nonzero = absurd (nonzero refl)
 token-kept words e time t n false same nonzero = (same, refl)
@@ -102,7 +106,8 @@ numbered-kept words e kind same = by (eqb kind 5) (eqb kind 6) (eqb kind 7)
 fault-stays : (words rx tx : List ℕ) (kind : ℕ) → StaysWith words rx (faultLeft words rx tx kind)
 unfolding faultLeft endOf
 fault-stays words rx tx kind =
-    either words rx (0 ∷ []) (isLink words) _ (λ p. numbered-kept words (endOf words rx tx) kind (own words p))
+    either words rx (0 ∷ []) (isLink words) _
+    (λ p. numbered-kept words (endOf words rx tx) kind (own words p))
 
 dispatch-stays : (words : List ℕ) (e : End) (sent : Sent) (s : Settled) (n : ℕ) (test : Bool) → linkWords (e .link) ≡ words →
     StaysWith words (e .rx)
@@ -114,10 +119,11 @@ dispatch-stays words e sent s n false same nonzero = (same, refl)
 send-stays : (words rx tx : List ℕ) → StaysWith words rx (sendLeft words rx tx)
 unfolding sendLeft sendOutcome endOf
 send-stays words rx tx =
-    either words rx (0 ∷ 0 ∷ 0 ∷ []) (isLink words) _ (λ p. dispatch-stays words (endOf words rx tx) _ _ _ (eqb (both (endOf words rx tx)) 0) (own words p))
+    either words rx (0 ∷ 0 ∷ 0 ∷ []) (isLink words) _
+    (λ p. dispatch-stays words (endOf words rx tx) _ _ _ (eqb (both (endOf words rx tx)) 0) (own words p))
 
-receipt-stays : (words times : List ℕ) (e : End) (time : Time) (t : Token) (n : ℕ) (test : Bool) → linkWords (e .link) ≡ words →
-    timeWords time ≡ times →
+receipt-stays : (words times : List ℕ) (e : End) (time : Time) (t : Token) (n : ℕ) (test : Bool) →
+    linkWords (e .link) ≡ words → timeWords time ≡ times →
     ReceiptStays words (e .rx) times
     (receiptLeft (pick test (tokenAccepted e time t) (record { answer = receiveRefused (e .link) time n; rx = e .rx })))
 unfolding receiptLeft tokenAccepted received receiptOf receiveRefused
@@ -153,7 +159,9 @@ put-stays : (words tx : List ℕ) (n : ℕ) → StaysWith words tx (putLeft word
 unfolding putLeft putAnswer putPlacesAfter
 put-stays words tx n =
     either words tx (0 ∷ []) (isLink words) _
-    (λ p. put-kept words tx (linkOf words) (fitted n) _ (eqb (putRefusal (length tx) (linkOf words) (fitted n)) 0) (own words p))
+    (λ p.
+    put-kept words tx (linkOf words) (fitted n) _
+    (eqb (putRefusal (length tx) (linkOf words) (fitted n)) 0) (own words p))
 
 take-kept : (words rx : List ℕ) (l : Link) (n : ℕ) (test : Bool) → linkWords l ≡ words →
     Stays words (taken (pick test (takeAccepted rx l) (takeRefused l n)))
@@ -165,7 +173,8 @@ take-stays : (words rx : List ℕ) → Stays words (takeLeft words rx)
 unfolding takeLeft takeAnswer
 take-stays words rx =
     pick-stays words (isLink words) _ _
-    (λ p. take-kept words rx (linkOf words) _ (eqb (takeRefusal (length rx) (linkOf words)) 0) (own words p)) (λ nonzero. refl)
+    (λ p. take-kept words rx (linkOf words) _ (eqb (takeRefusal (length rx) (linkOf words)) 0) (own words p))
+    (λ nonzero. refl)
 
 offer-kept : (words : List ℕ) (l : Link) (code n : ℕ) (test : Bool) → linkWords l ≡ words →
     Stays words (offered (pick test (offerAccepted l code) (refusedWith l n)))
@@ -177,7 +186,8 @@ offer-stays : (words : List ℕ) (code : ℕ) → Stays words (offerLeft words c
 unfolding offerLeft offerAnswer
 offer-stays words code =
     pick-stays words (isLink words) _ _
-    (λ p. offer-kept words (linkOf words) code _ (eqb (offerRefusal (linkOf words)) 0) (own words p)) (λ nonzero. refl)
+    (λ p. offer-kept words (linkOf words) code _ (eqb (offerRefusal (linkOf words)) 0) (own words p))
+    (λ nonzero. refl)
 
 pub link-stays : LinkStays
 link-stays =

@@ -1,4 +1,5 @@
--- An array is filled from its first place on: behind p steps its first p places hold what is listed, the others what they held.
+-- An array is filled from its first place on: behind p steps its first p places hold what is listed, the others what they
+-- held.
 -- Assumes nothing.
 use Prim.Native.Nat.{ℕ, zero, suc, _+_, _-_, _≤_, _<_}
 use mathlib.Core.Path.{_≡_, refl, sym, ap, _∙_}

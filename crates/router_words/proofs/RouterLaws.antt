@@ -1,4 +1,5 @@
--- The words of a router give it back: the words of a port or store stand where they are looked for, and give back its record.
+-- The words of a router give it back: the words of a port or store stand where they are looked for, and give back its
+-- record.
 -- Assumes nothing.
 use Prim.Native.Nat.{ℕ, zero, suc, _+_, _*_, _%_, _^_, _≤_, _<_}
 use mathlib.Core.Path.{_≡_, refl, sym, ap, _∙_}
@@ -26,9 +27,9 @@ use Rattle.ports.specs.declared.Owner.{Owner}
 use Rattle.ports.specs.declared.Owner.the-variants.{Free, By}
 use Rattle.ports.specs.declared.Output.{Output}
 use Rattle.ports.specs.declared.Router.{Router}
-use Rattle.router_words.specs.RouterWords.{listed, modeWords, outputWords, routerWord, routerWords, wantedOf, modeOf}
-use Rattle.router_words.specs.RouterWords.{ownerOf, inputIn, outputIn, storeIn, routerOf, FitsMode, FitsOwner, FitsRouter}
-use Rattle.router_words.specs.RouterWords.{isRouter, KeepsRouters}
+use Rattle.router_words.specs.RouterWords.{listed, modeWords, outputWords, routerWord, routerWords, wantedOf}
+use Rattle.router_words.specs.RouterWords.{modeOf, ownerOf, inputIn, outputIn, storeIn, routerOf, FitsMode}
+use Rattle.router_words.specs.RouterWords.{FitsOwner, FitsRouter, isRouter, KeepsRouters}
 use Rattle.router_words.proofs.ListedLaws.{length-listed, getD-listed}
 use Rattle.router_words.proofs.PlaceLaws.{mode-place, output-place, store-place}
 
@@ -77,17 +78,30 @@ module _ (r : Router) (fits : FitsRouter r) where
   input-at : (p : ℕ) → p < 11 → inputIn (routerWords r) p ≡ getD (r .inputs) p idle
   unfolding inputIn
   input-at p h =
-      rw (mode-word r p 0 (3 * p) h (omega arith) (omega arith), mode-word r p 1 (3 * p + 1) h (omega arith) refl, mode-word r p 2 (3 * p + 2) h (omega arith) refl, mode-back (modeAt r p) (fits .modes p h), lt-ltb p 11 h)
+      rw (
+        mode-word r p 0 (3 * p) h (omega arith) (omega arith),
+        mode-word r p 1 (3 * p + 1) h (omega arith) refl,
+        mode-word r p 2 (3 * p + 2) h (omega arith) refl,
+        mode-back (modeAt r p) (fits .modes p h),
+        lt-ltb p 11 h,
+      )
 
   output-at : (p : ℕ) → p < 11 → outputIn (routerWords r) p ≡ getD (r .outputs) p noOutput
   unfolding outputIn
   output-at p h =
-      rw (output-word r p 0 (3 * p + 33) h (omega arith) (omega arith), output-word r p 1 (3 * p + 34) h (omega arith) (omega arith), output-word r p 2 (3 * p + 35) h (omega arith) (omega arith))
+      rw (
+        output-word r p 0 (3 * p + 33) h (omega arith) (omega arith),
+        output-word r p 1 (3 * p + 34) h (omega arith) (omega arith),
+        output-word r p 2 (3 * p + 35) h (omega arith) (omega arith),
+      )
       (output-back (outputAt r p .owner) (outputAt r p .last) (fits .owners p h) (fits .lasts p h) ∙ rw (lt-ltb p 11 h))
 
   store-at : (k : ℕ) → k < 22 → storeIn (routerWords r) k ≡ getD (r .stores) k freshStore
   store-at k h =
-      rw (store-word r k 0 (2 * k + 66) h (omega arith) (omega arith), store-word r k 1 (2 * k + 67) h (omega arith) (omega arith))
+      rw (
+        store-word r k 0 (2 * k + 66) h (omega arith) (omega arith),
+        store-word r k 1 (2 * k + 67) h (omega arith) (omega arith),
+      )
       (store-back (storeAt r k) (fits .fronts k h) (fits .lens k h) ∙ rw (lt-ltb k 22 h))
 
 router-back : (r : Router) → FitsRouter r → routerOf (routerWords r) ≡ r
@@ -97,17 +111,23 @@ router-back r fits = rw (inputs, outputs, stores)
     inputs : listed (inputIn (routerWords r)) 0 11 ≡ r .inputs
     inputs =
         ext-getD idle _ _ (length-listed _ 0 11 ∙ sym (fits .inputs))
-        (λ p h. let h′ : p < 11 = rw (length-listed (inputIn (routerWords r)) 0 11) at h in listed-at (inputIn (routerWords r)) 11 p idle h′ ∙ input-at r fits p h′)
+        (λ p h.
+        let h′ : p < 11 = rw (length-listed (inputIn (routerWords r)) 0 11) at h in
+        listed-at (inputIn (routerWords r)) 11 p idle h′ ∙ input-at r fits p h′)
 
     outputs : listed (outputIn (routerWords r)) 0 11 ≡ r .outputs
     outputs =
         ext-getD noOutput _ _ (length-listed _ 0 11 ∙ sym (fits .outputs))
-        (λ p h. let h′ : p < 11 = rw (length-listed (outputIn (routerWords r)) 0 11) at h in listed-at (outputIn (routerWords r)) 11 p noOutput h′ ∙ output-at r fits p h′)
+        (λ p h.
+        let h′ : p < 11 = rw (length-listed (outputIn (routerWords r)) 0 11) at h in
+        listed-at (outputIn (routerWords r)) 11 p noOutput h′ ∙ output-at r fits p h′)
 
     stores : listed (storeIn (routerWords r)) 0 22 ≡ r .stores
     stores =
         ext-getD freshStore _ _ (length-listed _ 0 22 ∙ sym (fits .stores))
-        (λ k h. let h′ : k < 22 = rw (length-listed (storeIn (routerWords r)) 0 22) at h in listed-at (storeIn (routerWords r)) 22 k freshStore h′ ∙ store-at r fits k h′)
+        (λ k h.
+        let h′ : k < 22 = rw (length-listed (storeIn (routerWords r)) 0 22) at h in
+        listed-at (storeIn (routerWords r)) 22 k freshStore h′ ∙ store-at r fits k h′)
 
 is-router : (r : Router) → FitsRouter r → isRouter (routerWords r) ≡ true
 is-router r fits = rw (router-back r fits) (same-itself (routerWords r))

@@ -14,7 +14,8 @@ use Rattle.rounds.specs.Acts.{Tally}
 use Rattle.router.specs.Refusals.{putRefusal, takeRefusal, runRefusal}
 use Rattle.router.specs.Calls.{puts, tookOne, takes, told, runs}
 use Rattle.router_words.specs.RouterWords.{routerWords, routerOf, isRouter}
-use Rattle.router_words.specs.RouterCalls.{RouterLeft, noRouter, put, putLeft, took, takeLeft, ran, runLeft, Stays, RouterStays}
+use Rattle.router_words.specs.RouterCalls.{RouterLeft, noRouter, put, putLeft, took, takeLeft, ran, runLeft}
+use Rattle.router_words.specs.RouterCalls.{Stays, RouterStays}
 
 own : (words : List ℕ) → isRouter words ≡ true → routerWords (routerOf words) ≡ words
 own words p = sym (same-is words _ p)
@@ -36,7 +37,9 @@ put-stays : (words area : List ℕ) (port n : ℕ) → Stays words area (putLeft
 unfolding putLeft puts
 put-stays words area port n =
     either words area [] (isRouter words) _
-    (λ p. put-kept words area (routerOf words) _ _ (eqb (putRefusal (machine (routerOf words) area) port (fitted n)) 0) (own words p))
+    (λ p.
+    put-kept words area (routerOf words) _ _
+    (eqb (putRefusal (machine (routerOf words) area) port (fitted n)) 0) (own words p))
 
 take-kept : (words area : List ℕ) (r : Router) (port n : ℕ) (test : Bool) → routerWords r ≡ words →
     Stays words area
@@ -49,7 +52,9 @@ take-stays : (words area : List ℕ) (port : ℕ) → Stays words area (takeLeft
 unfolding takeLeft takes
 take-stays words area port =
     either words area (0 ∷ []) (isRouter words) _
-    (λ p. take-kept words area (routerOf words) port _ (eqb (takeRefusal (machine (routerOf words) area) port) 0) (own words p))
+    (λ p.
+    take-kept words area (routerOf words) port _
+    (eqb (takeRefusal (machine (routerOf words) area) port) 0) (own words p))
 
 run-kept : (words area : List ℕ) (r : Router) (t : Tally Machine) (n : ℕ) (test : Bool) → routerWords r ≡ words →
     Stays words area
@@ -62,7 +67,9 @@ run-stays : (words area table : List ℕ) (limit : ℕ) → Stays words area (ru
 unfolding runLeft runs
 run-stays words area table limit =
     either words area (0 ∷ 0 ∷ 0 ∷ []) (isRouter words) _
-    (λ p. run-kept words area (routerOf words) _ _ (eqb (runRefusal (machine (routerOf words) area) (fitted limit)) 0) (own words p))
+    (λ p.
+    run-kept words area (routerOf words) _ _
+    (eqb (runRefusal (machine (routerOf words) area) (fitted limit)) 0) (own words p))
 
 pub router-stays : RouterStays
 router-stays = record { put-stays = put-stays; take-stays = take-stays; run-stays = run-stays }

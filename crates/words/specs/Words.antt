@@ -1,5 +1,5 @@
--- A state that a C program keeps is an array of words of 32 bits, one for each field. Any words may be handed in: those are a
--- state that a call could have left, which is tested by saving again what was loaded.
+-- A state that a C program keeps is an array of words of 32 bits, one for each field. Any words may be handed in. They are
+-- a state where saving what they load gives them back.
 -- Assumes nothing.
 use Prim.Native.Nat.{ℕ, _%_, _^_}
 use mathlib.Core.Path.{_≡_}

@@ -1,4 +1,5 @@
--- `router_words::save_inputs` meets its contract. The invariant: behind p steps the words before those of input p are filled.
+-- `router_words::save_inputs` meets its contract.
+-- The invariant: behind p steps the words before those of input p are filled.
 -- Assumes nothing.
 use borrow.Author.Needs.{needs}
 use borrow.Author.Tests.{lt-ltb}
@@ -27,7 +28,12 @@ loop-again c =
       omega arith,
       rw (l .inv .1)
           (fill-three (routerWord r) 0 110 (3 * l .p) _ _ _ (omega (arith, inside))
-          (ap (λ (w : List ℕ). wordAt w 0) (c .mode-words .ensures) ∙ sym (mode-place r (l .p) 0 (3 * l .p) inside (omega arith) (omega arith) ∙ rw (lt-ltb (l .p) 11 inside))) (ap (λ (w : List ℕ). wordAt w 1) (c .mode-words .ensures) ∙ sym (mode-place r (l .p) 1 (3 * l .p + 1) inside (omega arith) (omega arith) ∙ rw (lt-ltb (l .p) 11 inside))) (ap (λ (w : List ℕ). wordAt w 2) (c .mode-words .ensures) ∙ sym (mode-place r (l .p) 2 (3 * l .p + 2) inside (omega arith) (omega arith) ∙ rw (lt-ltb (l .p) 11 inside)))
+          (ap (λ (w : List ℕ). wordAt w 0) (c .mode-words .ensures)
+          ∙ sym (mode-place r (l .p) 0 (3 * l .p) inside (omega arith) (omega arith) ∙ rw (lt-ltb (l .p) 11 inside)))
+          (ap (λ (w : List ℕ). wordAt w 1) (c .mode-words .ensures)
+          ∙ sym (mode-place r (l .p) 1 (3 * l .p + 1) inside (omega arith) (omega arith) ∙ rw (lt-ltb (l .p) 11 inside)))
+          (ap (λ (w : List ℕ). wordAt w 2) (c .mode-words .ensures)
+          ∙ sym (mode-place r (l .p) 2 (3 * l .p + 2) inside (omega arith) (omega arith) ∙ rw (lt-ltb (l .p) 11 inside)))
           ∙ ap (filled (routerWord r) 0 110) (let e : 3 * l .p + 3 ≡ 3 * (l .p + 1) = omega arith in e)),
     )
 

@@ -1,4 +1,5 @@
--- `router_words::save_stores` meets its contract. The invariant: behind k steps the words before those of store k are filled.
+-- `router_words::save_stores` meets its contract.
+-- The invariant: behind k steps the words before those of store k are filled.
 -- Assumes nothing.
 use borrow.Author.Needs.{needs}
 use borrow.Author.Tests.{lt-ltb}
@@ -29,7 +30,10 @@ loop-again c =
       omega arith,
       rw (l .inv .1)
           (fill-two (routerWord r) 0 110 (2 * l .k + 66) _ _ (omega (arith, inside))
-          (ap (λ (w : List ℕ). wordAt w 0) (c .store-words .ensures) ∙ sym (store-place r (l .k) 0 (2 * l .k + 66) inside (omega arith) (omega arith) ∙ rw (lt-ltb (l .k) 22 inside))) (ap (λ (w : List ℕ). wordAt w 1) (c .store-words .ensures) ∙ sym (store-place r (l .k) 1 (2 * l .k + 66 + 1) inside (omega arith) (omega arith) ∙ rw (lt-ltb (l .k) 22 inside)))
+          (ap (λ (w : List ℕ). wordAt w 0) (c .store-words .ensures)
+          ∙ sym (store-place r (l .k) 0 (2 * l .k + 66) inside (omega arith) (omega arith) ∙ rw (lt-ltb (l .k) 22 inside)))
+          (ap (λ (w : List ℕ). wordAt w 1) (c .store-words .ensures)
+          ∙ sym (store-place r (l .k) 1 (2 * l .k + 66 + 1) inside (omega arith) (omega arith) ∙ rw (lt-ltb (l .k) 22 inside)))
           ∙ ap (filled (routerWord r) 0 110) (let e : 2 * l .k + 66 + 2 ≡ 2 * (l .k + 1) + 66 = omega arith in e)),
     )
 

@@ -16,4 +16,6 @@ saved-spec =
     (λ c κs. search needs)
     (λ c κs. search needs)
     (λ c κs. search needs)
-    (λ c. c .save-stores .ensures ∙ fill-ends (routerWord (c .before .before .before .args .r)) 0 110 110 (omega arith) (omega arith)))
+    (λ c.
+    c .save-stores .ensures
+    ∙ fill-ends (routerWord (c .before .before .before .args .r)) 0 110 110 (omega arith) (omega arith)))
