@@ -8,13 +8,13 @@ use mathlib.Core.List.{List, [], _∷_}
 use lib.ListN.{length}
 use lib.Dec.{eqb}
 use Rattle.vocabulary.specs.Choice.{pick}
-use Rattle.vocabulary.specs.Refusals.{STATE, number}
+use Rattle.vocabulary.specs.Refusals.{STATE, CHAR, number}
 use Rattle.words.specs.Words.{Left, Stays, truthWord, truth, narrow}
 use Rattle.words.specs.Arguments.{fitted, noToken, tokenOf}
 use Rattle.time.specs.Time.{freshTime}
 use Rattle.link.specs.Ends.{End}
 use Rattle.link.specs.Send.{sentKind, sentValue}
-use Rattle.link.specs.Calls.{Outcome, tickOutcome, faultOutcome, controlOutcome, resetOutcome, sendOutcome, receiveOutcome}
+use Rattle.link.specs.Calls.{Outcome, both, tickOutcome, faultOutcome, controlOutcome, resetOutcome, sendOutcome, receiveOutcome}
 use Rattle.link.specs.Calls.{putAnswer, putPlacesAfter, takeAnswer, offerAnswer}
 use Rattle.link.specs.declared.Controls.{Controls}
 use Rattle.link.specs.declared.FaultKind.the-variants.{ParityFault, EscapeFault, DisconnectFault}
@@ -67,6 +67,12 @@ numberedFault e kind =
     pick (eqb kind 5) (faultOutcome e ParityFault)
     (pick (eqb kind 6) (faultOutcome e EscapeFault)
     (pick (eqb kind 7) (faultOutcome e DisconnectFault) (asAnswer (receiveOutcome e freshTime noToken))))
+
+-- so it is CHAR exactly where no test before it applies
+abbrev pub NoFaultIsChar : Type 0
+NoFaultIsChar =
+    (e : End) (kind : ℕ) → (kind ≡ 5 → ⊥) → (kind ≡ 6 → ⊥) → (kind ≡ 7 → ⊥) →
+    numberedFault e kind .answer .refusal ≡ pick (eqb (both e) 0) (number CHAR) (both e)
 
 unfoldable pub faultLeft : List ℕ → List ℕ → List ℕ → ℕ → LinkLeft
 faultLeft words rx tx kind =
