@@ -4,7 +4,7 @@
 use Prim.Native.Nat.{ℕ}
 use mathlib.Core.Path.{_≡_, refl, sym}
 use mathlib.Core.Bool.{Bool, true, false}
-use mathlib.Core.List.{List}
+use mathlib.Core.List.{List, [], _∷_}
 use lib.Dec.{eqb}
 use Rattle.vocabulary.specs.Choice.{pick}
 use Rattle.vocabulary.specs.declared.Token.the-variants.{Null, Fct, NChar, TimeCode}
@@ -51,31 +51,31 @@ is-decoder : (d : Decoder) → FitsDecoder d → isDecoder (decoderWords d) ≡ 
 is-decoder d fits = rw (decoder-back d fits) (same-itself (decoderWords d))
 
 decoded-stays : (words : List ℕ) (d : Decoder) (s : Step) (n : ℕ) (test : Bool) → decoderWords d ≡ words →
-    Stays words (decoded (pick test (decodeAccepted s) (decodeRefused d n)))
+    Stays words (0 ∷ 0 ∷ []) (decoded (pick test (decodeAccepted s) (decodeRefused d n)))
 unfolding decoded decodeAccepted decodeRefused
 decoded-stays words d s n true same refused = absurd (refused refl)
-decoded-stays words d s n false same refused = same
+decoded-stays words d s n false same refused = (same, refl)
 
 own : (words : List ℕ) → isDecoder words ≡ true → decoderWords (decoderOf words) ≡ words
 own words p = sym (same-is words _ p)
 
-bit-stays : (words : List ℕ) (b : ℕ) → Stays words (bitLeft words b)
+bit-stays : (words : List ℕ) (b : ℕ) → Stays words (0 ∷ 0 ∷ []) (bitLeft words b)
 unfolding bitLeft bitAnswer noDecoder
 bit-stays words b =
-    pick-stays words (isDecoder words) _ _
+    pick-stays words (0 ∷ 0 ∷ []) (isDecoder words) _ _
     (λ p.
     decoded-stays words (decoderOf words) (bitStep (decoderOf words) (truth b)) _
     (eqb (decoderRefusal (decoderOf words)) 0) (own words p))
-    (λ refused. refl)
+    (λ refused. (refl, refl))
 
-tick-stays : (words : List ℕ) → Stays words (tickLeft words)
+tick-stays : (words : List ℕ) → Stays words (0 ∷ 0 ∷ []) (tickLeft words)
 unfolding tickLeft tickAnswer noDecoder
 tick-stays words =
-    pick-stays words (isDecoder words) _ _
+    pick-stays words (0 ∷ 0 ∷ []) (isDecoder words) _ _
     (λ p.
     decoded-stays words (decoderOf words) (tickStep (decoderOf words)) _
     (eqb (decoderRefusal (decoderOf words)) 0) (own words p))
-    (λ refused. refl)
+    (λ refused. (refl, refl))
 
 pub keeps-decoders : KeepsDecoders
 keeps-decoders =

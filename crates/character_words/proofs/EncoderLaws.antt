@@ -4,7 +4,7 @@
 use Prim.Native.Nat.{ℕ}
 use mathlib.Core.Path.{_≡_, refl, sym}
 use mathlib.Core.Bool.{Bool, true, false}
-use mathlib.Core.List.{List}
+use mathlib.Core.List.{List, [], _∷_}
 use lib.Dec.{eqb}
 use Rattle.vocabulary.specs.Choice.{pick}
 use Rattle.words.specs.Words.{Stays}
@@ -25,19 +25,19 @@ odd-back true = refl
 odd-back false = refl
 
 encoded-stays : (words : List ℕ) (e : Encoder) (accepted : Encoded) (n : ℕ) (test : Bool) → encoderWords e ≡ words →
-    accepted .refusal ≡ 0 → Stays words (encoded (pick test accepted (encodeRefused e n)))
+    accepted .refusal ≡ 0 → Stays words (0 ∷ 0 ∷ []) (encoded (pick test accepted (encodeRefused e n)))
 unfolding encoded encodeRefused
 encoded-stays words e accepted n true same zero refused = absurd (refused zero)
-encoded-stays words e accepted n false same zero refused = same
+encoded-stays words e accepted n false same zero refused = (same, refl)
 
-stays : (words : List ℕ) (kind value : ℕ) → Stays words (encodeLeft words kind value)
+stays : (words : List ℕ) (kind value : ℕ) → Stays words (0 ∷ 0 ∷ []) (encodeLeft words kind value)
 unfolding encodeLeft encodeAnswer sent noEncoder
 stays words kind value =
-    pick-stays words _ _ _
+    pick-stays words (0 ∷ 0 ∷ []) _ _ _
     (λ p.
     encoded-stays words (encoderOf words) (sent (encoderOf words) (tokenOf kind value)) _
     (eqb (encoderRefusal (tokenOf kind value)) 0) (sym (same-is words _ p)) refl)
-    (λ refused. refl)
+    (λ refused. (refl, refl))
 
 is-encoder : (e : Encoder) → isEncoder (encoderWords e) ≡ true
 is-encoder e = rw (odd-back (e .odd)) (same-itself (encoderWords e))

@@ -109,6 +109,6 @@ pub record KeepsDecoders : Type 0 where
   -- loading what was saved gives it back, so what was saved is a decoder
   pub back : (d : Decoder) → FitsDecoder d → decoderOf (decoderWords d) ≡ d
   pub is-decoder : (d : Decoder) → FitsDecoder d → isDecoder (decoderWords d) ≡ true
-  -- a refused call leaves the words as they were
-  pub bit-stays : (words : List ℕ) (b : ℕ) → Stays words (bitLeft words b)
-  pub tick-stays : (words : List ℕ) → Stays words (tickLeft words)
+  -- a refused call leaves the words as they were, and answers zeros
+  pub bit-stays : (words : List ℕ) (b : ℕ) → Stays words (0 ∷ 0 ∷ []) (bitLeft words b)
+  pub tick-stays : (words : List ℕ) → Stays words (0 ∷ 0 ∷ []) (tickLeft words)

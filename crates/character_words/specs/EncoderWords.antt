@@ -34,4 +34,4 @@ encodeLeft words kind value =
 pub record KeepsEncoders : Type 0 where
   pub back : (e : Encoder) → encoderOf (encoderWords e) ≡ e
   pub is-encoder : (e : Encoder) → isEncoder (encoderWords e) ≡ true
-  pub stays : (words : List ℕ) (kind value : ℕ) → Stays words (encodeLeft words kind value)
+  pub stays : (words : List ℕ) (kind value : ℕ) → Stays words (0 ∷ 0 ∷ []) (encodeLeft words kind value)

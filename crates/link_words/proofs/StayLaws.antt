@@ -39,61 +39,61 @@ own : (words : List ℕ) → isLink words ≡ true → linkWords (linkOf words) 
 own words p = sym (same-is words _ p)
 
 -- words that are none of an end stay, and so does all that is lent
-either : (words places zeros : List ℕ) (test : Bool) (left : LinkLeft) → (test ≡ true → StaysWith words places left) →
-    StaysWith words places (pick test left (noLink words places zeros))
+either : (words places zeros : List ℕ) (test : Bool) (left : LinkLeft) → (test ≡ true → StaysWith words places zeros left) →
+    StaysWith words places zeros (pick test left (noLink words places zeros))
 unfolding noLink
 either words places zeros true left f nonzero = f refl nonzero
-either words places zeros false left f nonzero = (refl, refl)
+either words places zeros false left f nonzero = (refl, refl, refl)
 
 answer-stays : (words : List ℕ) (e : End) (s : Settled) (n : ℕ) (test : Bool) → linkWords (e .link) ≡ words →
-    StaysWith words (e .rx) (answerLeft (pick test (accepted s) (refused e n)))
+    StaysWith words (e .rx) (0 ∷ []) (answerLeft (pick test (accepted s) (refused e n)))
 unfolding answerLeft accepted refused answered refusedWith
 answer-stays words e s n true same nonzero = absurd (nonzero refl)
-answer-stays words e s n false same nonzero = (same, refl)
+answer-stays words e s n false same nonzero = (same, refl, refl)
 
-tick-stays : (words rx tx : List ℕ) → StaysWith words rx (tickLeft words rx tx)
+tick-stays : (words rx tx : List ℕ) → StaysWith words rx (0 ∷ []) (tickLeft words rx tx)
 unfolding tickLeft tickOutcome endOf
 tick-stays words rx tx =
     either words rx (0 ∷ []) (isLink words) _
     (λ p. answer-stays words (endOf words rx tx) _ _ (eqb (both (endOf words rx tx)) 0) (own words p))
 
-reset-stays : (words rx tx : List ℕ) → StaysWith words rx (resetLeft words rx tx)
+reset-stays : (words rx tx : List ℕ) → StaysWith words rx (0 ∷ []) (resetLeft words rx tx)
 unfolding resetLeft resetOutcome endOf
 reset-stays words rx tx =
     either words rx (0 ∷ []) (isLink words) _
     (λ p. answer-stays words (endOf words rx tx) _ _ (eqb (both (endOf words rx tx)) 0) (own words p))
 
-control-stays : (words rx tx : List ℕ) (c : Controls) → StaysWith words rx (controlLeft words rx tx c)
+control-stays : (words rx tx : List ℕ) (c : Controls) → StaysWith words rx (0 ∷ []) (controlLeft words rx tx c)
 unfolding controlLeft controlOutcome endOf
 control-stays words rx tx c =
     either words rx (0 ∷ []) (isLink words) _
     (λ p. answer-stays words (endOf words rx tx) _ _ (eqb (both (endOf words rx tx)) 0) (own words p))
 
 fault-kept : (words : List ℕ) (e : End) (f : FaultKind) → linkWords (e .link) ≡ words →
-    StaysWith words (e .rx) (answerLeft (faultOutcome e f))
+    StaysWith words (e .rx) (0 ∷ []) (answerLeft (faultOutcome e f))
 unfolding faultOutcome
 fault-kept words e f same = answer-stays words e _ _ (eqb (both e) 0) same
 
 token-kept : (words : List ℕ) (e : End) (time : Time) (t : Token) (n : ℕ) (test : Bool) → linkWords (e .link) ≡ words →
-    StaysWith words (e .rx)
+    StaysWith words (e .rx) (0 ∷ [])
     (answerLeft
     (asAnswer (pick test (tokenAccepted e time t) (record { answer = receiveRefused (e .link) time n; rx = e .rx }))))
 unfolding answerLeft asAnswer tokenAccepted received receiptOf receiveRefused
 token-kept words e time t n true same nonzero = absurd (nonzero refl)
-token-kept words e time t n false same nonzero = (same, refl)
+token-kept words e time t n false same nonzero = (same, refl, refl)
 
 none-kept : (words : List ℕ) (e : End) → linkWords (e .link) ≡ words →
-    StaysWith words (e .rx) (answerLeft (asAnswer (receiveOutcome e freshTime noToken)))
+    StaysWith words (e .rx) (0 ∷ []) (answerLeft (asAnswer (receiveOutcome e freshTime noToken)))
 unfolding receiveOutcome
 none-kept words e same = token-kept words e freshTime noToken _ (eqb (receiving e freshTime noToken) 0) same
 
 numbered-kept : (words : List ℕ) (e : End) (kind : ℕ) → linkWords (e .link) ≡ words →
-    StaysWith words (e .rx) (answerLeft (numberedFault e kind))
+    StaysWith words (e .rx) (0 ∷ []) (answerLeft (numberedFault e kind))
 unfolding numberedFault
 numbered-kept words e kind same = by (eqb kind 5) (eqb kind 6) (eqb kind 7)
   where
     by : (five six seven : Bool) →
-        StaysWith words (e .rx)
+        StaysWith words (e .rx) (0 ∷ [])
         (answerLeft
         (pick five (faultOutcome e ParityFault)
         (pick six (faultOutcome e EscapeFault)
@@ -103,20 +103,20 @@ numbered-kept words e kind same = by (eqb kind 5) (eqb kind 6) (eqb kind 7)
     by false false true = fault-kept words e DisconnectFault same
     by false false false = none-kept words e same
 
-fault-stays : (words rx tx : List ℕ) (kind : ℕ) → StaysWith words rx (faultLeft words rx tx kind)
+fault-stays : (words rx tx : List ℕ) (kind : ℕ) → StaysWith words rx (0 ∷ []) (faultLeft words rx tx kind)
 unfolding faultLeft endOf
 fault-stays words rx tx kind =
     either words rx (0 ∷ []) (isLink words) _
     (λ p. numbered-kept words (endOf words rx tx) kind (own words p))
 
 dispatch-stays : (words : List ℕ) (e : End) (sent : Sent) (s : Settled) (n : ℕ) (test : Bool) → linkWords (e .link) ≡ words →
-    StaysWith words (e .rx)
+    StaysWith words (e .rx) (0 ∷ 0 ∷ 0 ∷ [])
     (dispatchLeft (pick test (dispatched sent s) (record { answer = sendRefused (e .link) n; rx = e .rx })))
 unfolding dispatchLeft dispatched dispatchOf sendRefused
 dispatch-stays words e sent s n true same nonzero = absurd (nonzero refl)
-dispatch-stays words e sent s n false same nonzero = (same, refl)
+dispatch-stays words e sent s n false same nonzero = (same, refl, refl)
 
-send-stays : (words rx tx : List ℕ) → StaysWith words rx (sendLeft words rx tx)
+send-stays : (words rx tx : List ℕ) → StaysWith words rx (0 ∷ 0 ∷ 0 ∷ []) (sendLeft words rx tx)
 unfolding sendLeft sendOutcome endOf
 send-stays words rx tx =
     either words rx (0 ∷ 0 ∷ 0 ∷ []) (isLink words) _
@@ -128,15 +128,15 @@ receipt-stays : (words times : List ℕ) (e : End) (time : Time) (t : Token) (n 
     (receiptLeft (pick test (tokenAccepted e time t) (record { answer = receiveRefused (e .link) time n; rx = e .rx })))
 unfolding receiptLeft tokenAccepted received receiptOf receiveRefused
 receipt-stays words times e time t n true same clock nonzero = absurd (nonzero refl)
-receipt-stays words times e time t n false same clock nonzero = (same, refl, clock)
+receipt-stays words times e time t n false same clock nonzero = (same, refl, clock, refl)
 
 either-receipt : (words rx time : List ℕ) (link clock : Bool) (left : ReceiveLeft) →
     (link ≡ true → clock ≡ true → ReceiptStays words rx time left) →
     ReceiptStays words rx time (pick (link && clock) left (noReceipt words rx time))
 unfolding noReceipt
 either-receipt words rx time true true left f nonzero = f refl refl nonzero
-either-receipt words rx time true false left f nonzero = (refl, refl, refl)
-either-receipt words rx time false clock left f nonzero = (refl, refl, refl)
+either-receipt words rx time true false left f nonzero = (refl, refl, refl, refl)
+either-receipt words rx time false clock left f nonzero = (refl, refl, refl, refl)
 
 receive-stays : (words rx tx time : List ℕ) (kind value : ℕ) →
     ReceiptStays words rx time (receiveLeft words rx tx time kind value)
@@ -149,13 +149,13 @@ receive-stays words rx tx time kind value =
     (own words p) (sym (same-is time _ q)))
 
 put-kept : (words tx : List ℕ) (l : Link) (n : ℕ) (refusal : ℕ) (test : Bool) → linkWords l ≡ words →
-    StaysWith words tx
+    StaysWith words tx (0 ∷ [])
     (putDone (pick test (answered (puts (length tx) l n)) (refusedWith l refusal)) (pick test (putsPlaces tx l n) tx))
 unfolding putDone answered refusedWith
 put-kept words tx l n refusal true same nonzero = absurd (nonzero refl)
-put-kept words tx l n refusal false same nonzero = (same, refl)
+put-kept words tx l n refusal false same nonzero = (same, refl, refl)
 
-put-stays : (words tx : List ℕ) (n : ℕ) → StaysWith words tx (putLeft words tx n)
+put-stays : (words tx : List ℕ) (n : ℕ) → StaysWith words tx (0 ∷ []) (putLeft words tx n)
 unfolding putLeft putAnswer putPlacesAfter
 put-stays words tx n =
     either words tx (0 ∷ []) (isLink words) _
@@ -164,30 +164,30 @@ put-stays words tx n =
     (eqb (putRefusal (length tx) (linkOf words) (fitted n)) 0) (own words p))
 
 take-kept : (words rx : List ℕ) (l : Link) (n : ℕ) (test : Bool) → linkWords l ≡ words →
-    Stays words (taken (pick test (takeAccepted rx l) (takeRefused l n)))
+    Stays words (0 ∷ 0 ∷ []) (taken (pick test (takeAccepted rx l) (takeRefused l n)))
 unfolding taken takeAccepted takeRefused
 take-kept words rx l n true same nonzero = absurd (nonzero refl)
-take-kept words rx l n false same nonzero = same
+take-kept words rx l n false same nonzero = (same, refl)
 
-take-stays : (words rx : List ℕ) → Stays words (takeLeft words rx)
+take-stays : (words rx : List ℕ) → Stays words (0 ∷ 0 ∷ []) (takeLeft words rx)
 unfolding takeLeft takeAnswer
 take-stays words rx =
-    pick-stays words (isLink words) _ _
+    pick-stays words (0 ∷ 0 ∷ []) (isLink words) _ _
     (λ p. take-kept words rx (linkOf words) _ (eqb (takeRefusal (length rx) (linkOf words)) 0) (own words p))
-    (λ nonzero. refl)
+    (λ nonzero. (refl, refl))
 
 offer-kept : (words : List ℕ) (l : Link) (code n : ℕ) (test : Bool) → linkWords l ≡ words →
-    Stays words (offered (pick test (offerAccepted l code) (refusedWith l n)))
+    Stays words (0 ∷ []) (offered (pick test (offerAccepted l code) (refusedWith l n)))
 unfolding offered offerAccepted refusedWith
 offer-kept words l code n true same nonzero = absurd (nonzero refl)
-offer-kept words l code n false same nonzero = same
+offer-kept words l code n false same nonzero = (same, refl)
 
-offer-stays : (words : List ℕ) (code : ℕ) → Stays words (offerLeft words code)
+offer-stays : (words : List ℕ) (code : ℕ) → Stays words (0 ∷ []) (offerLeft words code)
 unfolding offerLeft offerAnswer
 offer-stays words code =
-    pick-stays words (isLink words) _ _
+    pick-stays words (0 ∷ []) (isLink words) _ _
     (λ p. offer-kept words (linkOf words) code _ (eqb (offerRefusal (linkOf words)) 0) (own words p))
-    (λ nonzero. refl)
+    (λ nonzero. (refl, refl))
 
 pub link-stays : LinkStays
 link-stays =

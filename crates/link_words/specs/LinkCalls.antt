@@ -154,22 +154,24 @@ offerLeft words code =
     pick (isLink words) (offered (offerAnswer (linkOf words) code))
     (record { refusal = number STATE; state = words; out = 0 ∷ [] })
 
--- "State, stores and the time record stay", whichever call is refused
-abbrev pub StaysWith : List ℕ → List ℕ → LinkLeft → Type 0
-StaysWith words places left = (left .refusal ≡ 0 → ⊥) → (left .state ≡ words) × (left .places ≡ places)
+-- "State, stores and the time record stay; other answers are zero", whichever call is refused
+abbrev pub StaysWith : List ℕ → List ℕ → List ℕ → LinkLeft → Type 0
+StaysWith words places zeros left =
+    (left .refusal ≡ 0 → ⊥) → (left .state ≡ words) × (left .places ≡ places) × (left .out ≡ zeros)
 
 abbrev pub ReceiptStays : List ℕ → List ℕ → List ℕ → ReceiveLeft → Type 0
 ReceiptStays words rx time left =
-    (left .refusal ≡ 0 → ⊥) → (left .state ≡ words) × (left .rx ≡ rx) × (left .time ≡ time)
+    (left .refusal ≡ 0 → ⊥) →
+    (left .state ≡ words) × (left .rx ≡ rx) × (left .time ≡ time) × (left .out ≡ 0 ∷ 0 ∷ [])
 
 pub record LinkStays : Type 0 where
-  pub tick : (words rx tx : List ℕ) → StaysWith words rx (tickLeft words rx tx)
-  pub reset : (words rx tx : List ℕ) → StaysWith words rx (resetLeft words rx tx)
-  pub fault : (words rx tx : List ℕ) (kind : ℕ) → StaysWith words rx (faultLeft words rx tx kind)
-  pub control : (words rx tx : List ℕ) (c : Controls) → StaysWith words rx (controlLeft words rx tx c)
-  pub send : (words rx tx : List ℕ) → StaysWith words rx (sendLeft words rx tx)
+  pub tick : (words rx tx : List ℕ) → StaysWith words rx (0 ∷ []) (tickLeft words rx tx)
+  pub reset : (words rx tx : List ℕ) → StaysWith words rx (0 ∷ []) (resetLeft words rx tx)
+  pub fault : (words rx tx : List ℕ) (kind : ℕ) → StaysWith words rx (0 ∷ []) (faultLeft words rx tx kind)
+  pub control : (words rx tx : List ℕ) (c : Controls) → StaysWith words rx (0 ∷ []) (controlLeft words rx tx c)
+  pub send : (words rx tx : List ℕ) → StaysWith words rx (0 ∷ 0 ∷ 0 ∷ []) (sendLeft words rx tx)
   pub receive : (words rx tx time : List ℕ) (kind value : ℕ) →
       ReceiptStays words rx time (receiveLeft words rx tx time kind value)
-  pub put : (words tx : List ℕ) (n : ℕ) → StaysWith words tx (putLeft words tx n)
-  pub take : (words rx : List ℕ) → Stays words (takeLeft words rx)
-  pub offer : (words : List ℕ) (code : ℕ) → Stays words (offerLeft words code)
+  pub put : (words tx : List ℕ) (n : ℕ) → StaysWith words tx (0 ∷ []) (putLeft words tx n)
+  pub take : (words rx : List ℕ) → Stays words (0 ∷ 0 ∷ []) (takeLeft words rx)
+  pub offer : (words : List ℕ) (code : ℕ) → Stays words (0 ∷ []) (offerLeft words code)

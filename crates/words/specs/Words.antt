@@ -46,6 +46,6 @@ pub record Left : Type 0 where
   pub state : List ℕ
   pub out : List ℕ
 
--- "State, stores and the time record stay"
-abbrev pub Stays : List ℕ → Left → Type 0
-Stays words left = (left .refusal ≡ 0 → ⊥) → left .state ≡ words
+-- "State, stores and the time record stay; other answers are zero": of a call that is refused
+abbrev pub Stays : List ℕ → List ℕ → Left → Type 0
+Stays words zeros left = (left .refusal ≡ 0 → ⊥) → (left .state ≡ words) × (left .out ≡ zeros)
