@@ -1,18 +1,17 @@
--- A decoder's words give it back, phase by phase; a refused call hands the decoder back, and its words are those that it was
--- loaded from.
+-- A decoder's words give it back, phase by phase; a refused call hands the decoder back, and its words are those that it
+-- was loaded from.
 -- Assumes nothing.
-use Prim.Native.Nat.{ℕ, _%_, _<_}
+use Prim.Native.Nat.{ℕ}
 use mathlib.Core.Path.{_≡_, refl, sym}
 use mathlib.Core.Bool.{Bool, true, false}
-use mathlib.Core.List.{List}
-use native.Mathlib.Omega.{arith}
+use mathlib.Core.List.{List, [], _∷_}
 use lib.Dec.{eqb}
 use Rattle.vocabulary.specs.Choice.{pick}
 use Rattle.vocabulary.specs.declared.Token.the-variants.{Null, Fct, NChar, TimeCode}
 use Rattle.words.specs.Words.{Stays, truth}
-use Rattle.words.proofs.SameLaws.{same-is}
+use Rattle.words.proofs.NumberLaws.{byte-back, truth-back}
+use Rattle.words.proofs.SameLaws.{same-is, same-itself}
 use Rattle.words.proofs.StayLaws.{pick-stays}
-use Rattle.words.proofs.TruthLaws.{truth-back}
 use Rattle.words.proofs.TokenLaws.{token-back}
 use Rattle.characters.specs.Decoder.{bitStep, tickStep}
 use Rattle.characters.specs.Refusals.{decoderRefusal}
@@ -26,9 +25,6 @@ use Rattle.characters.specs.declared.decoder.Step.{Step}
 use Rattle.character_words.specs.DecoderWords.{waitingNumber, waitingValue, waitingOf, decoderWords, decoderFrom}
 use Rattle.character_words.specs.DecoderWords.{decoderOf, decoded, noDecoder, bitLeft, tickLeft, isDecoder}
 use Rattle.character_words.specs.DecoderWords.{FitsWaiting, FitsDecoder, KeepsDecoders}
-
-byte-back : (n : ℕ) → n < 256 → n % 256 ≡ n
-byte-back n h = omega arith
 
 waiting-back : (w : Waiting) → FitsWaiting w → waitingOf (waitingNumber w) (waitingValue w) ≡ w
 unfolding waitingOf
@@ -51,28 +47,36 @@ decoder-back (Heard (Control escape) silent) (s, h) = rw (byte-back silent s, tr
 decoder-back (Heard (Second escape a) silent) (s, h) = rw (byte-back silent s, truth-back escape, truth-back a)
 decoder-back Stopped h = refl
 
+is-decoder : (d : Decoder) → FitsDecoder d → isDecoder (decoderWords d) ≡ true
+is-decoder d fits = rw (decoder-back d fits) (same-itself (decoderWords d))
+
 decoded-stays : (words : List ℕ) (d : Decoder) (s : Step) (n : ℕ) (test : Bool) → decoderWords d ≡ words →
-    Stays words (decoded (pick test (decodeAccepted s) (decodeRefused d n)))
+    Stays words (0 ∷ 0 ∷ []) (decoded (pick test (decodeAccepted s) (decodeRefused d n)))
 unfolding decoded decodeAccepted decodeRefused
 decoded-stays words d s n true same refused = absurd (refused refl)
-decoded-stays words d s n false same refused = same
+decoded-stays words d s n false same refused = (same, refl)
 
 own : (words : List ℕ) → isDecoder words ≡ true → decoderWords (decoderOf words) ≡ words
 own words p = sym (same-is words _ p)
 
-bit-stays : (words : List ℕ) (b : ℕ) → Stays words (bitLeft words b)
+bit-stays : (words : List ℕ) (b : ℕ) → Stays words (0 ∷ 0 ∷ []) (bitLeft words b)
 unfolding bitLeft bitAnswer noDecoder
 bit-stays words b =
-    pick-stays words (isDecoder words) _ _
-    (λ p. decoded-stays words (decoderOf words) (bitStep (decoderOf words) (truth b)) _ (eqb (decoderRefusal (decoderOf words)) 0) (own words p))
-    (λ refused. refl)
+    pick-stays words (0 ∷ 0 ∷ []) (isDecoder words) _ _
+    (λ p.
+    decoded-stays words (decoderOf words) (bitStep (decoderOf words) (truth b)) _
+    (eqb (decoderRefusal (decoderOf words)) 0) (own words p))
+    (λ refused. (refl, refl))
 
-tick-stays : (words : List ℕ) → Stays words (tickLeft words)
+tick-stays : (words : List ℕ) → Stays words (0 ∷ 0 ∷ []) (tickLeft words)
 unfolding tickLeft tickAnswer noDecoder
 tick-stays words =
-    pick-stays words (isDecoder words) _ _
-    (λ p. decoded-stays words (decoderOf words) (tickStep (decoderOf words)) _ (eqb (decoderRefusal (decoderOf words)) 0) (own words p))
-    (λ refused. refl)
+    pick-stays words (0 ∷ 0 ∷ []) (isDecoder words) _ _
+    (λ p.
+    decoded-stays words (decoderOf words) (tickStep (decoderOf words)) _
+    (eqb (decoderRefusal (decoderOf words)) 0) (own words p))
+    (λ refused. (refl, refl))
 
 pub keeps-decoders : KeepsDecoders
-keeps-decoders = record { back = decoder-back; bit-stays = bit-stays; tick-stays = tick-stays }
+keeps-decoders =
+    record { back = decoder-back; is-decoder = is-decoder; bit-stays = bit-stays; tick-stays = tick-stays }

@@ -1,9 +1,9 @@
--- The seven words of a decoder: its number, the ticks since the last bit, the number and the value of what waits, whether an
--- ESC came before, a bit (the parity bit, or the first of a control body) and the eight places for bits.
+-- The seven words of a decoder: its number, the ticks since the last bit, the number and the value of what waits, whether
+-- an ESC came before, a bit (the parity bit, or the first of a control body) and the eight places for bits.
 -- Assumes nothing.
 use Prim.Native.Nat.{ℕ, _<_}
 use mathlib.Core.Path.{_≡_}
-use mathlib.Core.Bool.{Bool}
+use mathlib.Core.Bool.{Bool, true}
 use mathlib.Core.List.{List, [], _∷_}
 use lib.Dec.{eqb}
 use Rattle.vocabulary.specs.Choice.{pick}
@@ -106,8 +106,9 @@ FitsDecoder (Heard p silent) = (silent < 256) × FitsPhase p
 FitsDecoder Stopped = Unit {0}
 
 pub record KeepsDecoders : Type 0 where
-  -- loading what was saved gives it back
+  -- loading what was saved gives it back, so what was saved is a decoder
   pub back : (d : Decoder) → FitsDecoder d → decoderOf (decoderWords d) ≡ d
-  -- a refused call leaves the words as they were
-  pub bit-stays : (words : List ℕ) (b : ℕ) → Stays words (bitLeft words b)
-  pub tick-stays : (words : List ℕ) → Stays words (tickLeft words)
+  pub is-decoder : (d : Decoder) → FitsDecoder d → isDecoder (decoderWords d) ≡ true
+  -- a refused call leaves the words as they were, and answers zeros
+  pub bit-stays : (words : List ℕ) (b : ℕ) → Stays words (0 ∷ 0 ∷ []) (bitLeft words b)
+  pub tick-stays : (words : List ℕ) → Stays words (0 ∷ 0 ∷ []) (tickLeft words)

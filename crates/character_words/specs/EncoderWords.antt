@@ -2,7 +2,7 @@
 -- Assumes nothing.
 use Prim.Native.Nat.{ℕ}
 use mathlib.Core.Path.{_≡_}
-use mathlib.Core.Bool.{Bool}
+use mathlib.Core.Bool.{Bool, true}
 use mathlib.Core.List.{List, [], _∷_}
 use Rattle.vocabulary.specs.Choice.{pick}
 use Rattle.vocabulary.specs.Refusals.{STATE, number}
@@ -33,4 +33,5 @@ encodeLeft words kind value =
 
 pub record KeepsEncoders : Type 0 where
   pub back : (e : Encoder) → encoderOf (encoderWords e) ≡ e
-  pub stays : (words : List ℕ) (kind value : ℕ) → Stays words (encodeLeft words kind value)
+  pub is-encoder : (e : Encoder) → isEncoder (encoderWords e) ≡ true
+  pub stays : (words : List ℕ) (kind value : ℕ) → Stays words (0 ∷ 0 ∷ []) (encodeLeft words kind value)

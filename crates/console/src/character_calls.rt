@@ -17,7 +17,8 @@ pub extern "C" fn neftolek_decoder_fresh(state: &mut [u32; 7])
 // One bit, any number but 0 for a one: `out` gets the number and the value of the report.
 #[no_mangle]
 pub extern "C" fn neftolek_decoder_bit(state: &mut [u32; 7], bit: u32, out: &mut [u32; 2]) -> u32
-    ensures { λ r. ⌜ record { refusal = r; state = now (state .exit); out = now (out .exit) } ≡ bitLeft (now (state .entry)) bit ⌝ }
+    ensures { λ r. ⌜ record { refusal = r; state = now (state .exit); out = now (out .exit) }
+        ≡ bitLeft (now (state .entry)) bit ⌝ }
 {
     let d = decoder::loaded(state);
     if decoder::is_saved(state, d) {
@@ -35,7 +36,8 @@ pub extern "C" fn neftolek_decoder_bit(state: &mut [u32; 7], bit: u32, out: &mut
 
 #[no_mangle]
 pub extern "C" fn neftolek_decoder_tick(state: &mut [u32; 7], out: &mut [u32; 2]) -> u32
-    ensures { λ r. ⌜ record { refusal = r; state = now (state .exit); out = now (out .exit) } ≡ tickLeft (now (state .entry)) ⌝ }
+    ensures { λ r. ⌜ record { refusal = r; state = now (state .exit); out = now (out .exit) }
+        ≡ tickLeft (now (state .entry)) ⌝ }
 {
     let d = decoder::loaded(state);
     if decoder::is_saved(state, d) {
@@ -66,7 +68,8 @@ pub extern "C" fn neftolek_encode(
     value: u32,
     out: &mut [u32; 2],
 ) -> u32
-    ensures { λ r. ⌜ record { refusal = r; state = now (state .exit); out = now (out .exit) } ≡ encodeLeft (now (state .entry)) kind value ⌝ }
+    ensures { λ r. ⌜ record { refusal = r; state = now (state .exit); out = now (out .exit) }
+        ≡ encodeLeft (now (state .entry)) kind value ⌝ }
 {
     let e = encoder::loaded(state);
     if encoder::is_saved(state, e) {

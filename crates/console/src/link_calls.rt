@@ -1,11 +1,11 @@
-// Link ends and the time record. A refused call leaves the state's words, the stores and the time record, and answers zeros in
-// `out`.
+// Link ends and the time record. A refused call leaves the state's words, the stores and the time record, and answers
+// zeros in `out`.
 ghost use mathlib.Core.Path.{_≡_};
 ghost use Rattle.time.specs.Time.{freshTime};
 ghost use Rattle.link.specs.Ends.{freshLink};
 ghost use Rattle.link_words.specs.LinkWords.{linkWords, timeWords};
-ghost use Rattle.link_words.specs.LinkCalls.{tickLeft, resetLeft, faultLeft, controlsOf, controlLeft, sendLeft, receiveLeft};
-ghost use Rattle.link_words.specs.LinkCalls.{putLeft, takeLeft, offerLeft};
+ghost use Rattle.link_words.specs.LinkCalls.{tickLeft, resetLeft, faultLeft, controlsOf, controlLeft, sendLeft};
+ghost use Rattle.link_words.specs.LinkCalls.{receiveLeft, putLeft, takeLeft, offerLeft};
 use link::calls;
 use link::send;
 
@@ -31,7 +31,8 @@ pub extern "C" fn neftolek_link_tick(
     tx: &[u16],
     out: &mut [u32; 1],
 ) -> u32
-    ensures { λ r. ⌜ record { refusal = r; state = now (state .exit); places = now (rx .exit); out = now (out .exit) } ≡ tickLeft (now (state .entry)) (now (rx .entry)) (now (tx .entry)) ⌝ }
+    ensures { λ r. ⌜ record { refusal = r; state = now (state .exit); places = now (rx .exit); out = now (out .exit) }
+        ≡ tickLeft (now (state .entry)) (now (rx .entry)) (now (tx .entry)) ⌝ }
 {
     let l = link_words::loaded(state);
     if link_words::is_saved(state, l) {
@@ -55,7 +56,8 @@ pub extern "C" fn neftolek_link_reset(
     tx: &[u16],
     out: &mut [u32; 1],
 ) -> u32
-    ensures { λ r. ⌜ record { refusal = r; state = now (state .exit); places = now (rx .exit); out = now (out .exit) } ≡ resetLeft (now (state .entry)) (now (rx .entry)) (now (tx .entry)) ⌝ }
+    ensures { λ r. ⌜ record { refusal = r; state = now (state .exit); places = now (rx .exit); out = now (out .exit) }
+        ≡ resetLeft (now (state .entry)) (now (rx .entry)) (now (tx .entry)) ⌝ }
 {
     let l = link_words::loaded(state);
     if link_words::is_saved(state, l) {
@@ -80,7 +82,8 @@ pub extern "C" fn neftolek_link_fault(
     kind: u32,
     out: &mut [u32; 1],
 ) -> u32
-    ensures { λ r. ⌜ record { refusal = r; state = now (state .exit); places = now (rx .exit); out = now (out .exit) } ≡ faultLeft (now (state .entry)) (now (rx .entry)) (now (tx .entry)) kind ⌝ }
+    ensures { λ r. ⌜ record { refusal = r; state = now (state .exit); places = now (rx .exit); out = now (out .exit) }
+        ≡ faultLeft (now (state .entry)) (now (rx .entry)) (now (tx .entry)) kind ⌝ }
 {
     let l = link_words::loaded(state);
     if link_words::is_saved(state, l) {
@@ -107,7 +110,8 @@ pub extern "C" fn neftolek_link_control(
     auto: u32,
     out: &mut [u32; 1],
 ) -> u32
-    ensures { λ r. ⌜ record { refusal = r; state = now (state .exit); places = now (rx .exit); out = now (out .exit) } ≡ controlLeft (now (state .entry)) (now (rx .entry)) (now (tx .entry)) (controlsOf disabled start auto) ⌝ }
+    ensures { λ r. ⌜ record { refusal = r; state = now (state .exit); places = now (rx .exit); out = now (out .exit) }
+        ≡ controlLeft (now (state .entry)) (now (rx .entry)) (now (tx .entry)) (controlsOf disabled start auto) ⌝ }
 {
     let l = link_words::loaded(state);
     if link_words::is_saved(state, l) {
@@ -132,7 +136,8 @@ pub extern "C" fn neftolek_link_send(
     tx: &[u16],
     out: &mut [u32; 3],
 ) -> u32
-    ensures { λ r. ⌜ record { refusal = r; state = now (state .exit); places = now (rx .exit); out = now (out .exit) } ≡ sendLeft (now (state .entry)) (now (rx .entry)) (now (tx .entry)) ⌝ }
+    ensures { λ r. ⌜ record { refusal = r; state = now (state .exit); places = now (rx .exit); out = now (out .exit) }
+        ≡ sendLeft (now (state .entry)) (now (rx .entry)) (now (tx .entry)) ⌝ }
 {
     let l = link_words::loaded(state);
     if link_words::is_saved(state, l) {
@@ -162,7 +167,8 @@ pub extern "C" fn neftolek_link_receive(
     value: u32,
     out: &mut [u32; 2],
 ) -> u32
-    ensures { λ r. ⌜ record { refusal = r; state = now (state .exit); rx = now (rx .exit); time = now (time .exit); out = now (out .exit) } ≡ receiveLeft (now (state .entry)) (now (rx .entry)) (now (tx .entry)) (now (time .entry)) kind value ⌝ }
+    ensures { λ r. ⌜ record { refusal = r; state = now (state .exit); rx = now (rx .exit); time = now (time .exit); out = now (out .exit) }
+        ≡ receiveLeft (now (state .entry)) (now (rx .entry)) (now (tx .entry)) (now (time .entry)) kind value ⌝ }
 {
     let l = link_words::loaded(state);
     let t = link_words::loaded_time(time);
@@ -190,7 +196,8 @@ pub extern "C" fn neftolek_link_put(
     nchar: u32,
     out: &mut [u32; 1],
 ) -> u32
-    ensures { λ r. ⌜ record { refusal = r; state = now (state .exit); places = now (tx .exit); out = now (out .exit) } ≡ putLeft (now (state .entry)) (now (tx .entry)) nchar ⌝ }
+    ensures { λ r. ⌜ record { refusal = r; state = now (state .exit); places = now (tx .exit); out = now (out .exit) }
+        ≡ putLeft (now (state .entry)) (now (tx .entry)) nchar ⌝ }
 {
     let l = link_words::loaded(state);
     if link_words::is_saved(state, l) {
@@ -209,7 +216,8 @@ pub extern "C" fn neftolek_link_put(
 // The host takes an N-Char that was received: `out` gets the discarded, always 0, and the N-Char.
 #[no_mangle]
 pub extern "C" fn neftolek_link_take(state: &mut [u32; 20], rx: &[u16], out: &mut [u32; 2]) -> u32
-    ensures { λ r. ⌜ record { refusal = r; state = now (state .exit); out = now (out .exit) } ≡ takeLeft (now (state .entry)) (now (rx .entry)) ⌝ }
+    ensures { λ r. ⌜ record { refusal = r; state = now (state .exit); out = now (out .exit) }
+        ≡ takeLeft (now (state .entry)) (now (rx .entry)) ⌝ }
 {
     let l = link_words::loaded(state);
     if link_words::is_saved(state, l) {
@@ -229,7 +237,8 @@ pub extern "C" fn neftolek_link_take(state: &mut [u32; 20], rx: &[u16], out: &mu
 // The host offers a Time-Code: `out` gets the discarded, always 0.
 #[no_mangle]
 pub extern "C" fn neftolek_link_offer(state: &mut [u32; 20], code: u8, out: &mut [u32; 1]) -> u32
-    ensures { λ r. ⌜ record { refusal = r; state = now (state .exit); out = now (out .exit) } ≡ offerLeft (now (state .entry)) code ⌝ }
+    ensures { λ r. ⌜ record { refusal = r; state = now (state .exit); out = now (out .exit) }
+        ≡ offerLeft (now (state .entry)) code ⌝ }
 {
     let l = link_words::loaded(state);
     if link_words::is_saved(state, l) {

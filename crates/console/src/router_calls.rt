@@ -1,4 +1,5 @@
-// Router and routing table. A refused call leaves the state's words, the area and the table, and answers zeros in `out`.
+// Router and routing table. A refused call leaves the state's words, the area and the table, and answers zeros in
+// `out`.
 ghost use mathlib.Core.Path.{_≡_};
 ghost use mathlib.Core.List.{[], _∷_};
 ghost use Rattle.table.specs.Rows.{freshTable};
@@ -28,7 +29,8 @@ pub extern "C" fn neftolek_router_put(
     port: u32,
     nchar: u32,
 ) -> u32
-    ensures { λ r. ⌜ record { refusal = r; state = now (state .exit); area = now (area .exit); out = [] } ≡ putLeft (now (state .entry)) (now (area .entry)) port nchar ⌝ }
+    ensures { λ r. ⌜ record { refusal = r; state = now (state .exit); area = now (area .exit); out = [] }
+        ≡ putLeft (now (state .entry)) (now (area .entry)) port nchar ⌝ }
 {
     let s = port_words::loaded(state);
     if port_words::is_saved(state, s) {
@@ -49,7 +51,8 @@ pub extern "C" fn neftolek_router_take(
     port: u32,
     out: &mut [u32; 1],
 ) -> u32
-    ensures { λ r. ⌜ record { refusal = r; state = now (state .exit); area = now (area .entry); out = now (out .exit) } ≡ takeLeft (now (state .entry)) (now (area .entry)) port ⌝ }
+    ensures { λ r. ⌜ record { refusal = r; state = now (state .exit); area = now (area .entry); out = now (out .exit) }
+        ≡ takeLeft (now (state .entry)) (now (area .entry)) port ⌝ }
 {
     let s = port_words::loaded(state);
     if port_words::is_saved(state, s) {
@@ -74,7 +77,8 @@ pub extern "C" fn neftolek_router_run(
     limit: u32,
     out: &mut [u32; 3],
 ) -> u32
-    ensures { λ r. ⌜ record { refusal = r; state = now (state .exit); area = now (area .exit); out = now (out .exit) } ≡ runLeft (now (state .entry)) (now (area .entry)) (now (table .entry)) limit ⌝ }
+    ensures { λ r. ⌜ record { refusal = r; state = now (state .exit); area = now (area .exit); out = now (out .exit) }
+        ≡ runLeft (now (state .entry)) (now (area .entry)) (now (table .entry)) limit ⌝ }
 {
     let s = port_words::loaded(state);
     if port_words::is_saved(state, s) {
@@ -96,7 +100,8 @@ pub extern "C" fn neftolek_router_write_row(
     row: u32,
     value: u32,
 ) -> u32
-    ensures { λ r. ⌜ (r ≡ rowRefused (now (state .entry)) row) × (now (table .exit) ≡ tableLeft (now (state .entry)) (now (table .entry)) row value) ⌝ }
+    ensures { λ r. ⌜ (r ≡ rowRefused (now (state .entry)) row)
+        × (now (table .exit) ≡ tableLeft (now (state .entry)) (now (table .entry)) row value) ⌝ }
 {
     let s = port_words::loaded(state);
     if port_words::is_saved(state, s) {
@@ -115,7 +120,8 @@ pub extern "C" fn neftolek_router_read_row(
     row: u32,
     out: &mut [u32; 1],
 ) -> u32
-    ensures { λ r. ⌜ (r ≡ rowLeft (now (state .entry)) (now (table .entry)) row .refusal) × (now (out .exit) ≡ rowLeft (now (state .entry)) (now (table .entry)) row .value ∷ []) ⌝ }
+    ensures { λ r. ⌜ (r ≡ rowLeft (now (state .entry)) (now (table .entry)) row .refusal)
+        × (now (out .exit) ≡ rowLeft (now (state .entry)) (now (table .entry)) row .value ∷ []) ⌝ }
 {
     let s = port_words::loaded(state);
     if port_words::is_saved(state, s) {

@@ -8,13 +8,13 @@ use mathlib.Core.List.{List, [], _∷_}
 use lib.ListN.{length}
 use lib.Dec.{eqb}
 use Rattle.vocabulary.specs.Choice.{pick}
-use Rattle.vocabulary.specs.Refusals.{STATE, number}
+use Rattle.vocabulary.specs.Refusals.{STATE, CHAR, number}
 use Rattle.words.specs.Words.{Left, Stays, truthWord, truth, narrow}
 use Rattle.words.specs.Arguments.{fitted, noToken, tokenOf}
 use Rattle.time.specs.Time.{freshTime}
 use Rattle.link.specs.Ends.{End}
 use Rattle.link.specs.Send.{sentKind, sentValue}
-use Rattle.link.specs.Calls.{Outcome, tickOutcome, faultOutcome, controlOutcome, resetOutcome, sendOutcome, receiveOutcome}
+use Rattle.link.specs.Calls.{Outcome, both, tickOutcome, faultOutcome, controlOutcome, resetOutcome, sendOutcome, receiveOutcome}
 use Rattle.link.specs.Calls.{putAnswer, putPlacesAfter, takeAnswer, offerAnswer}
 use Rattle.link.specs.declared.Controls.{Controls}
 use Rattle.link.specs.declared.FaultKind.the-variants.{ParityFault, EscapeFault, DisconnectFault}
@@ -67,6 +67,12 @@ numberedFault e kind =
     pick (eqb kind 5) (faultOutcome e ParityFault)
     (pick (eqb kind 6) (faultOutcome e EscapeFault)
     (pick (eqb kind 7) (faultOutcome e DisconnectFault) (asAnswer (receiveOutcome e freshTime noToken))))
+
+-- so it is CHAR exactly where no test before it applies
+abbrev pub NoFaultIsChar : Type 0
+NoFaultIsChar =
+    (e : End) (kind : ℕ) → (kind ≡ 5 → ⊥) → (kind ≡ 6 → ⊥) → (kind ≡ 7 → ⊥) →
+    numberedFault e kind .answer .refusal ≡ pick (eqb (both e) 0) (number CHAR) (both e)
 
 unfoldable pub faultLeft : List ℕ → List ℕ → List ℕ → ℕ → LinkLeft
 faultLeft words rx tx kind =
@@ -147,3 +153,25 @@ unfoldable pub offerLeft : List ℕ → ℕ → Left
 offerLeft words code =
     pick (isLink words) (offered (offerAnswer (linkOf words) code))
     (record { refusal = number STATE; state = words; out = 0 ∷ [] })
+
+-- "State, stores and the time record stay; other answers are zero", whichever call is refused
+abbrev pub StaysWith : List ℕ → List ℕ → List ℕ → LinkLeft → Type 0
+StaysWith words places zeros left =
+    (left .refusal ≡ 0 → ⊥) → (left .state ≡ words) × (left .places ≡ places) × (left .out ≡ zeros)
+
+abbrev pub ReceiptStays : List ℕ → List ℕ → List ℕ → ReceiveLeft → Type 0
+ReceiptStays words rx time left =
+    (left .refusal ≡ 0 → ⊥) →
+    (left .state ≡ words) × (left .rx ≡ rx) × (left .time ≡ time) × (left .out ≡ 0 ∷ 0 ∷ [])
+
+pub record LinkStays : Type 0 where
+  pub tick : (words rx tx : List ℕ) → StaysWith words rx (0 ∷ []) (tickLeft words rx tx)
+  pub reset : (words rx tx : List ℕ) → StaysWith words rx (0 ∷ []) (resetLeft words rx tx)
+  pub fault : (words rx tx : List ℕ) (kind : ℕ) → StaysWith words rx (0 ∷ []) (faultLeft words rx tx kind)
+  pub control : (words rx tx : List ℕ) (c : Controls) → StaysWith words rx (0 ∷ []) (controlLeft words rx tx c)
+  pub send : (words rx tx : List ℕ) → StaysWith words rx (0 ∷ 0 ∷ 0 ∷ []) (sendLeft words rx tx)
+  pub receive : (words rx tx time : List ℕ) (kind value : ℕ) →
+      ReceiptStays words rx time (receiveLeft words rx tx time kind value)
+  pub put : (words tx : List ℕ) (n : ℕ) → StaysWith words tx (0 ∷ []) (putLeft words tx n)
+  pub take : (words rx : List ℕ) → Stays words (0 ∷ 0 ∷ []) (takeLeft words rx)
+  pub offer : (words : List ℕ) (code : ℕ) → Stays words (0 ∷ []) (offerLeft words code)

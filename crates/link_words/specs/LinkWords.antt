@@ -2,7 +2,7 @@
 -- Assumes nothing.
 use Prim.Native.Nat.{ℕ, _^_, _<_}
 use mathlib.Core.Path.{_≡_}
-use mathlib.Core.Bool.{Bool}
+use mathlib.Core.Bool.{Bool, true}
 use mathlib.Core.List.{List, [], _∷_, _++_}
 use lib.Dec.{eqb}
 use Rattle.vocabulary.specs.Choice.{pick}
@@ -11,6 +11,7 @@ use Rattle.store.specs.declared.Store.{Store}
 use Rattle.time.specs.declared.Time.{Time}
 use Rattle.link.specs.Moves.{stateNumber}
 use Rattle.link.specs.Table.{stateOf}
+use Rattle.link.specs.Refusals.{bothRefusal}
 use Rattle.link.specs.declared.Stage.{Stage}
 use Rattle.link.specs.declared.Controls.{Controls}
 use Rattle.link.specs.declared.Credit.{Credit}
@@ -131,7 +132,11 @@ pub record FitsLink (l : Link) : Type 0 where
   pub rx : FitsStore (l .rx)
   pub tx : FitsStore (l .tx)
 
--- loading what was saved gives it back
 pub record KeepsLinks : Type 0 where
+  -- loading what was saved gives it back, so what was saved is a link end, or a time record
   pub link : (l : Link) → FitsLink l → linkOf (linkWords l) ≡ l
+  pub is-link : (l : Link) → FitsLink l → isLink (linkWords l) ≡ true
   pub time : (t : Time) → t .count < 256 → timeOf (timeWords t) ≡ t
+  pub is-time : (t : Time) → t .count < 256 → isTime (timeWords t) ≡ true
+  -- every end that a call which is lent both stores does not refuse fits
+  pub fits : (rx tx : ℕ) (l : Link) → bothRefusal rx tx l ≡ 0 → FitsOffer (l .offer) → FitsLink l

@@ -13,7 +13,8 @@ use link::calls;
 use vocabulary::Token;
 
 fn no_fault(l: Link, rx: &mut [u16], tx: &[u16]) -> Answer
-    ensures { λ r. ⌜ record { answer = r; rx = now (rx .exit) } ≡ asAnswer (receiveOutcome (record { link = l; rx = now (rx .entry); tx = now (tx .entry) }) freshTime noToken) ⌝ }
+    ensures { λ r. ⌜ record { answer = r; rx = now (rx .exit) }
+        ≡ asAnswer (receiveOutcome (record { link = l; rx = now (rx .entry); tx = now (tx .entry) }) freshTime noToken) ⌝ }
 {
     let r = calls::receive(l, rx, tx, time::fresh(), Token::NChar(65535));
     let link = r.link;
@@ -26,7 +27,8 @@ fn no_fault(l: Link, rx: &mut [u16], tx: &[u16]) -> Answer
 
 // A fault by the number of its report: `fault(l, rx, tx, 5)` is a parity error.
 pub fn fault(l: Link, rx: &mut [u16], tx: &[u16], kind: u32) -> Answer
-    ensures { λ r. ⌜ record { answer = r; rx = now (rx .exit) } ≡ numberedFault (record { link = l; rx = now (rx .entry); tx = now (tx .entry) }) kind ⌝ }
+    ensures { λ r. ⌜ record { answer = r; rx = now (rx .exit) }
+        ≡ numberedFault (record { link = l; rx = now (rx .entry); tx = now (tx .entry) }) kind ⌝ }
 {
     match kind {
         5 => calls::fault(l, rx, tx, FaultKind::ParityFault),

@@ -8,7 +8,7 @@ use lib.ListN.{getD}
 use lib.Seq.{ext-getD}
 use borrow.Author.Tests.{lt-ltb, le-ltb}
 use Rattle.words.specs.Words.{wordAt}
-use Rattle.words.proofs.TruthLaws.{truth-back}
+use Rattle.words.proofs.NumberLaws.{truth-back}
 use Rattle.store.specs.Changes.{freshStore}
 use Rattle.ports.specs.Ports.{idle, noOutput, modeAt, outputAt, storeAt}
 use Rattle.ports.specs.declared.Mode.{Mode}
@@ -19,7 +19,7 @@ use Rattle.ports.specs.declared.Router.{Router}
 use Rattle.words.specs.Words.{storeOf}
 use Rattle.port_words.specs.RouterWords.{listed, modeWords, outputWords, routerWord, routerWords}
 use Rattle.port_words.specs.RouterWords.{wantedOf, modeOf, ownerOf, inputIn, outputIn, storeIn, routerOf}
-use Rattle.port_words.specs.RouterWords.{FitsMode, FitsOwner, FitsRouter, KeepsRouters}
+use Rattle.port_words.specs.RouterWords.{FitsMode, FitsOwner, FitsRouter}
 use Rattle.port_words.proofs.ListedLaws.{length-listed, getD-listed}
 
 mode-back : (m : Mode) → FitsMode m → modeOf (wordAt (modeWords m) 0) (wordAt (modeWords m) 1) (wordAt (modeWords m) 2) ≡ m
@@ -125,5 +125,5 @@ module _ (r : Router) (fits : FitsRouter r) where
       ∙ store-back p (omega (arith, l, length-listed (storeIn (routerWords r)) 0 22))) in
       rw (inputs, outputs, stores)
 
-pub keeps-routers : KeepsRouters
-keeps-routers r fits = back r fits
+pub router-back : (r : Router) → FitsRouter r → routerOf (routerWords r) ≡ r
+router-back r fits = back r fits

@@ -3,7 +3,7 @@
 -- Assumes nothing.
 use Prim.Native.Nat.{ℕ, zero, suc, _+_, _-_, _*_, _/_, _%_, _^_, _<_}
 use mathlib.Core.Path.{_≡_}
-use mathlib.Core.Bool.{Bool}
+use mathlib.Core.Bool.{Bool, true, false}
 use mathlib.Core.List.{List, [], _∷_}
 use lib.ListN.{length}
 use lib.Seq.{sets}
@@ -12,7 +12,8 @@ use Rattle.vocabulary.specs.Choice.{pick}
 use Rattle.words.specs.Words.{wordAt, truthWord, truth, narrow, same, storeWords, storeOf}
 use Rattle.store.specs.Changes.{dropped, putStore}
 use Rattle.store.specs.declared.Store.{Store}
-use Rattle.ports.specs.Places.{sizeIn}
+use Rattle.ports.specs.Places.{sizeIn, badArea}
+use Rattle.ports.specs.Refusals.{badPorts, badStores}
 use Rattle.ports.specs.Ports.{modeAt, outputAt, storeAt}
 use Rattle.ports.specs.declared.Wanted.{Wanted}
 use Rattle.ports.specs.declared.Mode.{Mode}
@@ -122,6 +123,10 @@ pub record FitsRouter (r : Router) : Type 0 where
   pub fronts : (k : ℕ) → k < 22 → storeAt r k .front < 2 ^ 32
   pub lens : (k : ℕ) → k < 22 → storeAt r k .len < 2 ^ 32
 
--- loading what was saved gives it back
-abbrev pub KeepsRouters : Type 0
-KeepsRouters = (r : Router) → FitsRouter r → routerOf (routerWords r) ≡ r
+pub record KeepsRouters : Type 0 where
+  -- loading what was saved gives it back, so what was saved is a router
+  pub back : (r : Router) → FitsRouter r → routerOf (routerWords r) ≡ r
+  pub is-router : (r : Router) → FitsRouter r → isRouter (routerWords r) ≡ true
+  -- every router that put, take and run do not refuse as STATE or STORE fits
+  pub fits : (r : Router) (area : List ℕ) → length (r .inputs) ≡ 11 → length (r .outputs) ≡ 11 → length (r .stores) ≡ 22 →
+      badPorts r ≡ false → badArea area ≡ false → badStores r area ≡ false → FitsRouter r

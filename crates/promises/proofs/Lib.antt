@@ -8,6 +8,8 @@ pub mod ListingAnswers
 pub mod RoundsAnswers
 pub mod PortsAnswers
 pub mod TableAnswers
+pub mod WordsAnswers
+pub mod ConsoleAnswers
 pub mod ExactlyProofs
 pub mod StarredProofs
 pub mod WorthlessProofs

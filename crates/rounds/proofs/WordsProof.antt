@@ -27,7 +27,7 @@ use Rattle.ports.proofs.PortLaws.{ModeOk, OwnerOk}
 use Rattle.ports.proofs.StateLaws.{Sound, output-shape, drop-sound, append-sound}
 use Rattle.port_words.specs.RouterWords.{routerWords, withStoreIn, withoutFrontIn, withBehindIn}
 use Rattle.port_words.specs.RouterWords.{FitsMode, FitsOwner, FitsRouter}
-use Rattle.port_words.proofs.KeepsProof.{keeps-routers}
+use Rattle.port_words.proofs.KeepsProof.{router-back}
 use Rattle.port_words.proofs.LayoutLaws.{mode-saved, output-saved, store-saved}
 use Rattle.rounds.specs.Addresses.{waits}
 use Rattle.rounds.specs.Moves.{frees, carries}
@@ -70,7 +70,7 @@ module _ (n : ℕ) (small : n / 22 ≤ 1024) where
       }
 
   pub loads-back : (x : Machine) → Sound n x → loaded (savedOf x) ≡ x
-  loads-back x sound = ap (λ (r : Router). machine r (x .area)) (keeps-routers (x .router) (fits x sound))
+  loads-back x sound = ap (λ (r : Router). machine r (x .area)) (router-back (x .router) (fits x sound))
 
   -- a sound router beside its words
   pub record InWords (x : Machine) (w : Words) : Type 0 where

@@ -63,11 +63,15 @@ unfoldable pub rowLeft : List ℕ → List ℕ → ℕ → RowRead
 rowLeft words table row =
     pick (isRouter words) (readsRow (routerOf words) table row) (record { refusal = number STATE; value = 0 })
 
--- "State, stores and the time record stay"
-abbrev pub Stays : List ℕ → List ℕ → RouterLeft → Type 0
-Stays words area left = (left .refusal ≡ 0 → ⊥) → (left .state ≡ words) × (left .area ≡ area)
+-- "State, stores and the time record stay; other answers are zero": of a call that is refused
+abbrev pub Stays : List ℕ → List ℕ → List ℕ → RouterLeft → Type 0
+Stays words area zeros left =
+    (left .refusal ≡ 0 → ⊥) → (left .state ≡ words) × (left .area ≡ area) × (left .out ≡ zeros)
 
 pub record RouterStays : Type 0 where
-  pub put-stays : (words area : List ℕ) (port n : ℕ) → Stays words area (putLeft words area port n)
-  pub take-stays : (words area : List ℕ) (port : ℕ) → Stays words area (takeLeft words area port)
-  pub run-stays : (words area table : List ℕ) (limit : ℕ) → Stays words area (runLeft words area table limit)
+  pub put-stays : (words area : List ℕ) (port n : ℕ) → Stays words area [] (putLeft words area port n)
+  pub take-stays : (words area : List ℕ) (port : ℕ) → Stays words area (0 ∷ []) (takeLeft words area port)
+  pub run-stays : (words area table : List ℕ) (limit : ℕ) →
+      Stays words area (0 ∷ 0 ∷ 0 ∷ []) (runLeft words area table limit)
+  pub table-stays : (words table : List ℕ) (row value : ℕ) → (rowRefused words row ≡ 0 → ⊥) →
+      tableLeft words table row value ≡ table

@@ -1,4 +1,4 @@
+pub mod NumberLaws
 pub mod SameLaws
 pub mod StayLaws
 pub mod TokenLaws
-pub mod TruthLaws

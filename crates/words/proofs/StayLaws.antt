@@ -7,7 +7,7 @@ use mathlib.Core.List.{List}
 use Rattle.vocabulary.specs.Choice.{pick}
 use Rattle.words.specs.Words.{Left, Stays}
 
-pub pick-stays : (words : List ℕ) (test : Bool) (this that : Left) →
-    (test ≡ true → Stays words this) → Stays words that → Stays words (pick test this that)
-pick-stays words true this that f g = f refl
-pick-stays words false this that f g = g
+pub pick-stays : (words zeros : List ℕ) (test : Bool) (this that : Left) →
+    (test ≡ true → Stays words zeros this) → Stays words zeros that → Stays words zeros (pick test this that)
+pick-stays words zeros true this that f g = f refl
+pick-stays words zeros false this that f g = g

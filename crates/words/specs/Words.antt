@@ -1,5 +1,5 @@
--- A state that a C program keeps is an array of words of 32 bits, one for each field. Any words may be handed in: those are a
--- state that a call could have left, which is tested by saving again what was loaded.
+-- A state that a C program keeps is an array of words of 32 bits, one for each field. Any words may be handed in. They are
+-- a state where saving what they load gives them back.
 -- Assumes nothing.
 use Prim.Native.Nat.{ℕ, _%_, _^_}
 use mathlib.Core.Path.{_≡_}
@@ -46,6 +46,6 @@ pub record Left : Type 0 where
   pub state : List ℕ
   pub out : List ℕ
 
--- "State, stores and the time record stay"
-abbrev pub Stays : List ℕ → Left → Type 0
-Stays words left = (left .refusal ≡ 0 → ⊥) → left .state ≡ words
+-- "State, stores and the time record stay; other answers are zero": of a call that is refused
+abbrev pub Stays : List ℕ → List ℕ → Left → Type 0
+Stays words zeros left = (left .refusal ≡ 0 → ⊥) → (left .state ≡ words) × (left .out ≡ zeros)

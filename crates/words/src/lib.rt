@@ -1,5 +1,8 @@
 // What crosses to C: truths, numbers and tokens as words of 32 bits.
 ghost use mathlib.Core.Path.{_≡_};
+ghost use mathlib.Core.Bool.{false};
+ghost use lib.Dec.{eqb};
+ghost use Rattle.vocabulary.specs.Choice.{pick};
 ghost use Rattle.words.specs.Words.{truth, truthWord, byte, narrow, same, storeWords, storeOf};
 ghost use Rattle.words.specs.Arguments.{fitted, noToken, bare, timeCode, tokenOf};
 use store::Store;
@@ -94,18 +97,24 @@ pub fn store_of(front: u32, len: u32) -> Store
     }
 }
 
+fn still(good: bool, v: u32, w: u32) -> bool
+    ensures { λ r. ⌜ r ≡ pick (eqb v w) good false ⌝ }
+{
+    if v == w { good } else { false }
+}
+
+// Every word is compared, whatever the first say: a loop without a way out is compiled to vector code.
 pub fn same(a: &[u32], b: &[u32]) -> bool
     ensures { λ r. ⌜ r ≡ same (now (a .entry)) (now (b .entry)) ⌝ }
 {
     if a.len() != b.len() {
         return false;
     }
+    let mut good = true;
     let mut i = 0;
     while i < a.len() {
-        if a[i] != b[i] {
-            return false;
-        }
+        good = still(good, a[i], b[i]);
         i = i + 1;
     }
-    true
+    good
 }

@@ -24,4 +24,12 @@ loaded-spec =
     (λ c. search needs)
     (λ c. search needs)
     (λ c κs. search needs)
-    (λ c. rw (c .before .before .before .before .before .before .before .before .before .before .before .before .stage-in .ensures, c .before .before .before .before .before .before .before .before .before .before .before .controls-in .ensures, c .before .before .before .before .before .before .before .before .before .before .credit-in .ensures, c .before .before .before .before .before .before .before .before .before .marks-in .ensures, c .before .before .before .before .before .before .offer-of .ensures, c .before .before .before .store-of .ensures, c .store-of2 .ensures)))
+    (λ c. rw (
+      c .before .before .before .before .before .before .before .before .before .before .before .before .stage-in .ensures,
+      c .before .before .before .before .before .before .before .before .before .before .before .controls-in .ensures,
+      c .before .before .before .before .before .before .before .before .before .before .credit-in .ensures,
+      c .before .before .before .before .before .before .before .before .before .marks-in .ensures,
+      c .before .before .before .before .before .before .offer-of .ensures,
+      c .before .before .before .store-of .ensures,
+      c .store-of2 .ensures,
+    )))

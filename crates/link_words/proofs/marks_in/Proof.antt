@@ -21,4 +21,10 @@ marks-in-spec =
     (λ c κs. search needs)
     (λ c. search needs)
     (λ c κs. search needs)
-    (λ c. rw (c .before .before .before .before .before .before .before .before .truth .ensures, c .before .before .before .before .before .before .truth2 .ensures, c .before .before .before .before .truth3 .ensures, c .before .before .truth4 .ensures, c .truth5 .ensures)))
+    (λ c. rw (
+      c .before .before .before .before .before .before .before .before .truth .ensures,
+      c .before .before .before .before .before .before .truth2 .ensures,
+      c .before .before .before .before .truth3 .ensures,
+      c .before .before .truth4 .ensures,
+      c .truth5 .ensures,
+    )))

@@ -53,5 +53,11 @@ saved-spec =
     (λ c. search needs)
     (λ c. search needs)
     (λ c.
-    gathered _ _ _ _ _ _ _ _ (c .before .before .before .before .before .before .stage-words .ensures) (c .before .before .before .before .before .controls-words .ensures) (c .before .before .before .before .credit-words .ensures)
-    (c .before .before .before .marks-words .ensures) (c .before .before .offer-words .ensures) (c .before .store-words .ensures) (c .store-words2 .ensures)))
+    gathered _ _ _ _ _ _ _ _
+    (c .before .before .before .before .before .before .stage-words .ensures)
+    (c .before .before .before .before .before .controls-words .ensures)
+    (c .before .before .before .before .credit-words .ensures)
+    (c .before .before .before .marks-words .ensures)
+    (c .before .before .offer-words .ensures)
+    (c .before .store-words .ensures)
+    (c .store-words2 .ensures)))

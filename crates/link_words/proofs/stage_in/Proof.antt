@@ -19,4 +19,9 @@ stage-in-spec =
     (λ c κs. search needs)
     (λ c. search needs)
     (λ c κs. search needs)
-    (λ c. rw (c .before .before .before .before .before .before .state-of .ensures, c .before .before .before .before .byte .ensures, c .before .before .truth .ensures, c .truth2 .ensures)))
+    (λ c. rw (
+      c .before .before .before .before .before .before .state-of .ensures,
+      c .before .before .before .before .byte .ensures,
+      c .before .before .truth .ensures,
+      c .truth2 .ensures,
+    )))

@@ -20,4 +20,12 @@ decoder-from-spec =
     (λ c. rw (c .match .keys7))
     (λ c.
     let none = c .match .rest in
-    rw (ne-eqb _ _ (none .0 .0 .0 .0 .0 .0 .1), ne-eqb _ _ (none .0 .0 .0 .0 .0 .1), ne-eqb _ _ (none .0 .0 .0 .0 .1), ne-eqb _ _ (none .0 .0 .0 .1), ne-eqb _ _ (none .0 .0 .1), ne-eqb _ _ (none .0 .1), ne-eqb _ _ (none .1))))
+    rw (
+      ne-eqb _ _ (none .0 .0 .0 .0 .0 .0 .1),
+      ne-eqb _ _ (none .0 .0 .0 .0 .0 .1),
+      ne-eqb _ _ (none .0 .0 .0 .0 .1),
+      ne-eqb _ _ (none .0 .0 .0 .1),
+      ne-eqb _ _ (none .0 .0 .1),
+      ne-eqb _ _ (none .0 .1),
+      ne-eqb _ _ (none .1),
+    )))

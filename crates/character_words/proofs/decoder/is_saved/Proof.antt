@@ -12,4 +12,8 @@ is-saved-spec =
     (λ c κs. search needs)
     (λ c. search needs)
     (λ c κs. search needs)
-    (λ c. c .same .ensures ∙ sym (rw (← c .before .before .before .saved .ensures, c .before .before .same-arg .given .1, c .before .own .given .1))))
+    (λ c. c .same .ensures ∙ sym (rw (
+      ← c .before .before .before .saved .ensures,
+      c .before .before .same-arg .given .1,
+      c .before .own .given .1,
+    ))))

@@ -24,4 +24,10 @@ loaded-spec =
     (λ c κs. search needs)
     (λ c. search needs)
     (λ c κs. search needs)
-    (λ c. c .decoder-from .ensures ∙ sym (rw (← c .before .before .before .before .before .before .before .before .before .before .before .byte .ensures, ← c .before .before .before .before .before .before .before .before .waiting-of .ensures, ← c .before .before .before .before .before .before .truth .ensures, ← c .before .before .before .before .truth2 .ensures, ← c .before .before .byte2 .ensures))))
+    (λ c. c .decoder-from .ensures ∙ sym (rw (
+      ← c .before .before .before .before .before .before .before .before .before .before .before .byte .ensures,
+      ← c .before .before .before .before .before .before .before .before .waiting-of .ensures,
+      ← c .before .before .before .before .before .before .truth .ensures,
+      ← c .before .before .before .before .truth2 .ensures,
+      ← c .before .before .byte2 .ensures,
+    ))))

@@ -17,5 +17,16 @@ neftolek-decoder-tick-spec =
     (λ c κs. search needs)
     (λ c κs. search needs)
     (λ c. search needs)
-    (λ c. rw (← c .before .before .before .before .before .before .before .loaded .ensures, ← c .before .before .before .before .before .is-saved .ensures, c .before .before .before .before .if1 .taken, ← c .before .before .before .tick .ensures, c .before .before .saved .ensures, c .before .report-words .ensures))
-    (λ c. rw (← c .before .before .before .before .loaded .ensures, ← c .before .before .is-saved .ensures, c .before .if1 .left)))
+    (λ c. rw (
+      ← c .before .before .before .before .before .before .before .loaded .ensures,
+      ← c .before .before .before .before .before .is-saved .ensures,
+      c .before .before .before .before .if1 .taken,
+      ← c .before .before .before .tick .ensures,
+      c .before .before .saved .ensures,
+      c .before .report-words .ensures,
+    ))
+    (λ c. rw (
+      ← c .before .before .before .before .loaded .ensures,
+      ← c .before .before .is-saved .ensures,
+      c .before .if1 .left,
+    )))

@@ -19,5 +19,17 @@ neftolek-link-control-spec =
     (λ c κs. search needs)
     (λ c. search needs)
     (λ c. search needs)
-    (λ c. rw (← c .before .before .before .before .before .before .before .before .before .before .before .before .before .loaded .ensures, ← c .before .before .before .before .before .before .before .before .before .before .before .is-saved .ensures, c .before .before .before .before .before .before .before .before .before .before .if1 .taken, ← c .before .before .before .before .before .before .before .before .before .controls-of .ensures, ← c .before .before .before .before .before .before .before .control .ensures, c .before .before .before .narrow .ensures, c .before .before .saved .ensures))
-    (λ c. rw (← c .before .before .before .before .loaded .ensures, ← c .before .before .is-saved .ensures, c .before .if1 .left)))
+    (λ c. rw (
+      ← c .before .before .before .before .before .before .before .before .before .before .before .before .before .loaded .ensures,
+      ← c .before .before .before .before .before .before .before .before .before .before .before .is-saved .ensures,
+      c .before .before .before .before .before .before .before .before .before .before .if1 .taken,
+      ← c .before .before .before .before .before .before .before .before .before .controls-of .ensures,
+      ← c .before .before .before .before .before .before .before .control .ensures,
+      c .before .before .before .narrow .ensures,
+      c .before .before .saved .ensures,
+    ))
+    (λ c. rw (
+      ← c .before .before .before .before .loaded .ensures,
+      ← c .before .before .is-saved .ensures,
+      c .before .if1 .left,
+    )))

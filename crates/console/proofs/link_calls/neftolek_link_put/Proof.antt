@@ -19,5 +19,18 @@ neftolek-link-put-spec =
     (λ c κs. search needs)
     (λ c. search needs)
     (λ c. search needs)
-    (λ c. rw (← c .before .before .before .before .before .before .before .before .before .before .before .before .before .loaded .ensures, ← c .before .before .before .before .before .before .before .before .before .before .before .is-saved .ensures, c .before .before .before .before .before .before .before .before .before .before .if1 .taken, ← c .before .before .before .before .before .before .before .before .fitted .ensures, ← c .before .before .before .before .before .before .before .put .ensures .0, ← c .before .before .before .before .before .before .before .put .ensures .1, c .before .before .before .narrow .ensures, c .before .before .saved .ensures))
-    (λ c. rw (← c .before .before .before .before .loaded .ensures, ← c .before .before .is-saved .ensures, c .before .if1 .left)))
+    (λ c. rw (
+      ← c .before .before .before .before .before .before .before .before .before .before .before .before .before .loaded .ensures,
+      ← c .before .before .before .before .before .before .before .before .before .before .before .is-saved .ensures,
+      c .before .before .before .before .before .before .before .before .before .before .if1 .taken,
+      ← c .before .before .before .before .before .before .before .before .fitted .ensures,
+      ← c .before .before .before .before .before .before .before .put .ensures .0,
+      ← c .before .before .before .before .before .before .before .put .ensures .1,
+      c .before .before .before .narrow .ensures,
+      c .before .before .saved .ensures,
+    ))
+    (λ c. rw (
+      ← c .before .before .before .before .loaded .ensures,
+      ← c .before .before .is-saved .ensures,
+      c .before .if1 .left,
+    )))

@@ -22,5 +22,21 @@ neftolek-link-receive-spec =
     (λ c κs. search needs)
     (λ c. search needs)
     (λ c. search needs)
-    (λ c. rw (← c .before .before .before .before .before .before .before .before .before .before .before .before .before .before .before .before .before .before .before .loaded .ensures, ← c .before .before .before .before .before .before .before .before .before .before .before .before .before .before .before .before .before .loaded-time .ensures, ← c .before .before .before .before .before .before .before .before .before .before .before .before .before .before .both-saved .ensures, c .before .before .before .before .before .before .before .before .before .before .before .before .before .if1 .taken, ← c .before .before .before .before .before .before .before .before .before .before .before .token-of .ensures, ← c .before .before .before .before .before .before .before .before .before .before .receive .ensures, c .before .before .before .before .before .narrow .ensures, c .before .before .before .before .truth-word .ensures, c .before .before .before .saved .ensures, c .before .before .saved-time .ensures))
-    (λ c. rw (← c .before .before .before .before .before .before .before .loaded .ensures, ← c .before .before .before .before .before .loaded-time .ensures, ← c .before .before .both-saved .ensures, c .before .if1 .left)))
+    (λ c. rw (
+      ← c .before .before .before .before .before .before .before .before .before .before .before .before .before .before .before .before .before .before .before .loaded .ensures,
+      ← c .before .before .before .before .before .before .before .before .before .before .before .before .before .before .before .before .before .loaded-time .ensures,
+      ← c .before .before .before .before .before .before .before .before .before .before .before .before .before .before .both-saved .ensures,
+      c .before .before .before .before .before .before .before .before .before .before .before .before .before .if1 .taken,
+      ← c .before .before .before .before .before .before .before .before .before .before .before .token-of .ensures,
+      ← c .before .before .before .before .before .before .before .before .before .before .receive .ensures,
+      c .before .before .before .before .before .narrow .ensures,
+      c .before .before .before .before .truth-word .ensures,
+      c .before .before .before .saved .ensures,
+      c .before .before .saved-time .ensures,
+    ))
+    (λ c. rw (
+      ← c .before .before .before .before .before .before .before .loaded .ensures,
+      ← c .before .before .before .before .before .loaded-time .ensures,
+      ← c .before .before .both-saved .ensures,
+      c .before .if1 .left,
+    )))

@@ -19,5 +19,13 @@ neftolek-router-put-spec =
     (λ c κs. search needs)
     (λ c. search needs)
     (λ c. search needs)
-    (λ c. rw (← c .before .before .before .before .before .before .before .before .before .before .before .before .loaded .ensures, ← c .before .before .before .before .before .before .before .before .before .before .is-saved .ensures, c .before .before .before .before .before .before .before .before .before .if1 .taken, ← c .before .before .before .before .before .before .before .wide .ensures, ← c .before .before .before .before .before .before .fitted .ensures, ← c .before .before .before .before .before .put .ensures, c .before .saved .ensures))
+    (λ c. rw (
+      ← c .before .before .before .before .before .before .before .before .before .before .before .before .loaded .ensures,
+      ← c .before .before .before .before .before .before .before .before .before .before .is-saved .ensures,
+      c .before .before .before .before .before .before .before .before .before .if1 .taken,
+      ← c .before .before .before .before .before .before .before .wide .ensures,
+      ← c .before .before .before .before .before .before .fitted .ensures,
+      ← c .before .before .before .before .before .put .ensures,
+      c .before .saved .ensures,
+    ))
     (λ c. rw (← c .before .before .before .loaded .ensures, ← c .before .is-saved .ensures, c .if1 .left)))

@@ -23,4 +23,9 @@ fault-spec =
     (λ c. search needs)
     (λ c. rw (c .before .before .before .before .match .keys3, ← c .before .before .fault3 .ensures))
     (λ c. search needs)
-    (λ c. rw (ne-eqb _ _ (c .before .before .before .before .match .rest .0 .0 .1), ne-eqb _ _ (c .before .before .before .before .match .rest .0 .1), ne-eqb _ _ (c .before .before .before .before .match .rest .1), ← c .before .before .no-fault .ensures)))
+    (λ c. rw (
+      ne-eqb _ _ (c .before .before .before .before .match .rest .0 .0 .1),
+      ne-eqb _ _ (c .before .before .before .before .match .rest .0 .1),
+      ne-eqb _ _ (c .before .before .before .before .match .rest .1),
+      ← c .before .before .no-fault .ensures,
+    )))
