@@ -30,8 +30,8 @@ pub extern "C" fn neftolek_router_put(
 ) -> u32
     ensures { λ r. ⌜ record { refusal = r; state = now (state .exit); area = now (area .exit); out = [] } ≡ putLeft (now (state .entry)) (now (area .entry)) port nchar ⌝ }
 {
-    let s = port_words::loaded(state);
-    if port_words::is_saved(state, s) {
+    if port_words::is_router(state) {
+        let s = port_words::loaded(state);
         let a = router::put(s, area, words::wide(port), words::fitted(nchar));
         let next = a.router;
         *state = port_words::saved(next);
@@ -51,8 +51,8 @@ pub extern "C" fn neftolek_router_take(
 ) -> u32
     ensures { λ r. ⌜ record { refusal = r; state = now (state .exit); area = now (area .entry); out = now (out .exit) } ≡ takeLeft (now (state .entry)) (now (area .entry)) port ⌝ }
 {
-    let s = port_words::loaded(state);
-    if port_words::is_saved(state, s) {
+    if port_words::is_router(state) {
+        let s = port_words::loaded(state);
         let a = router::take(s, area, words::wide(port));
         let next = a.router;
         let taken = a.taken as u32;
@@ -76,17 +76,9 @@ pub extern "C" fn neftolek_router_run(
 ) -> u32
     ensures { λ r. ⌜ record { refusal = r; state = now (state .exit); area = now (area .exit); out = now (out .exit) } ≡ runLeft (now (state .entry)) (now (area .entry)) (now (table .entry)) limit ⌝ }
 {
-    let s = port_words::loaded(state);
-    if port_words::is_saved(state, s) {
-        let a = router::run(s, area, table, words::fitted(limit));
-        let next = a.router;
-        *state = port_words::saved(next);
-        *out = [a.rounds, a.moved, a.errors];
-        a.refusal as u32
-    } else {
-        *out = [0, 0, 0];
-        1
-    }
+    let a = router_words::run(state, area, table, limit);
+    *out = [a.rounds, a.moved, a.errors];
+    a.refusal
 }
 
 #[no_mangle]
@@ -98,8 +90,8 @@ pub extern "C" fn neftolek_router_write_row(
 ) -> u32
     ensures { λ r. ⌜ (r ≡ rowRefused (now (state .entry)) row) × (now (table .exit) ≡ tableLeft (now (state .entry)) (now (table .entry)) row value) ⌝ }
 {
-    let s = port_words::loaded(state);
-    if port_words::is_saved(state, s) {
+    if port_words::is_router(state) {
+        let s = port_words::loaded(state);
         let number = router::write_row(s, table, words::wide(row), value);
         number as u32
     } else {
@@ -117,8 +109,8 @@ pub extern "C" fn neftolek_router_read_row(
 ) -> u32
     ensures { λ r. ⌜ (r ≡ rowLeft (now (state .entry)) (now (table .entry)) row .refusal) × (now (out .exit) ≡ rowLeft (now (state .entry)) (now (table .entry)) row .value ∷ []) ⌝ }
 {
-    let s = port_words::loaded(state);
-    if port_words::is_saved(state, s) {
+    if port_words::is_router(state) {
+        let s = port_words::loaded(state);
         let a = router::read_row(s, table, words::wide(row));
         *out = [a.value];
         a.refusal as u32

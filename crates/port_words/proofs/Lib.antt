@@ -2,3 +2,4 @@ pub mod ListedLaws
 pub mod PlaceWords
 pub mod LayoutLaws
 pub mod KeepsProof
+pub mod RightLaws

@@ -213,7 +213,7 @@ pub fn bad_area(area: &[u16]) -> bool
     }
 }
 
-fn is_owner(w: Owner, i: usize) -> bool
+pub fn is_owner(w: Owner, i: usize) -> bool
     ensures { λ r. ⌜ r ≡ isOwner w i ⌝ }
 {
     match w {
@@ -222,7 +222,7 @@ fn is_owner(w: Owner, i: usize) -> bool
     }
 }
 
-fn is_routed(m: Mode, o: usize) -> bool
+pub fn is_routed(m: Mode, o: usize) -> bool
     ensures { λ r. ⌜ r ≡ isRouted m o ⌝ }
 {
     match m {
@@ -241,7 +241,7 @@ fn owned_by(s: Router, o: usize, i: usize) -> bool
     is_owner(owner, i)
 }
 
-fn bad_wanted(w: Wanted) -> bool
+pub fn bad_wanted(w: Wanted) -> bool
     ensures { λ r. ⌜ r ≡ badWanted w ⌝ }
 {
     let ports = w.ports;
