@@ -30,15 +30,7 @@ pub extern "C" fn neftolek_router_put(
 ) -> u32
     ensures { λ r. ⌜ record { refusal = r; state = now (state .exit); area = now (area .exit); out = [] } ≡ putLeft (now (state .entry)) (now (area .entry)) port nchar ⌝ }
 {
-    if port_words::is_router(state) {
-        let s = port_words::loaded(state);
-        let a = router::put(s, area, words::wide(port), words::fitted(nchar));
-        let next = a.router;
-        *state = port_words::saved(next);
-        a.refusal as u32
-    } else {
-        1
-    }
+    router_words::put(state, area, port, nchar)
 }
 
 // The front N-Char of a port's output store, in `out`.
@@ -51,18 +43,9 @@ pub extern "C" fn neftolek_router_take(
 ) -> u32
     ensures { λ r. ⌜ record { refusal = r; state = now (state .exit); area = now (area .entry); out = now (out .exit) } ≡ takeLeft (now (state .entry)) (now (area .entry)) port ⌝ }
 {
-    if port_words::is_router(state) {
-        let s = port_words::loaded(state);
-        let a = router::take(s, area, words::wide(port));
-        let next = a.router;
-        let taken = a.taken as u32;
-        *state = port_words::saved(next);
-        *out = [taken];
-        a.refusal as u32
-    } else {
-        *out = [0];
-        1
-    }
+    let a = router_words::take(state, area, port);
+    *out = [a.taken];
+    a.refusal
 }
 
 // Rounds, at most `limit`: `out` gets how many were run, the N-Chars moved and the address errors met.
