@@ -11,8 +11,8 @@ pub extern "C" fn neftolek_router_still_held(
 ) -> u32
     ensures { λ r. ⌜ record { refusal = r; out = now (out .exit) } ≡ heldLeft (now (state .entry)) port ⌝ }
 {
-    let s = port_words::loaded(state);
-    if port_words::is_saved(state, s) {
+    if port_words::is_router(state) {
+        let s = port_words::loaded(state);
         let a = router::still_held(s, words::wide(port));
         *out = held::held_words(a);
         a.refusal as u32

@@ -32,15 +32,7 @@ pub extern "C" fn neftolek_router_put(
     ensures { λ r. ⌜ record { refusal = r; state = now (state .exit); area = now (area .exit); out = [] }
         ≡ putLeft (now (state .entry)) (now (area .entry)) port nchar ⌝ }
 {
-    let s = port_words::loaded(state);
-    if port_words::is_saved(state, s) {
-        let a = router::put(s, area, words::wide(port), words::fitted(nchar));
-        let next = a.router;
-        *state = port_words::saved(next);
-        a.refusal as u32
-    } else {
-        1
-    }
+    router_words::put(state, area, port, nchar)
 }
 
 // The front N-Char of a port's output store, in `out`.
@@ -54,18 +46,9 @@ pub extern "C" fn neftolek_router_take(
     ensures { λ r. ⌜ record { refusal = r; state = now (state .exit); area = now (area .entry); out = now (out .exit) }
         ≡ takeLeft (now (state .entry)) (now (area .entry)) port ⌝ }
 {
-    let s = port_words::loaded(state);
-    if port_words::is_saved(state, s) {
-        let a = router::take(s, area, words::wide(port));
-        let next = a.router;
-        let taken = a.taken as u32;
-        *state = port_words::saved(next);
-        *out = [taken];
-        a.refusal as u32
-    } else {
-        *out = [0];
-        1
-    }
+    let a = router_words::take(state, area, port);
+    *out = [a.taken];
+    a.refusal
 }
 
 // Rounds, at most `limit`: `out` gets how many were run, the N-Chars moved and the address errors met.
@@ -80,17 +63,9 @@ pub extern "C" fn neftolek_router_run(
     ensures { λ r. ⌜ record { refusal = r; state = now (state .exit); area = now (area .exit); out = now (out .exit) }
         ≡ runLeft (now (state .entry)) (now (area .entry)) (now (table .entry)) limit ⌝ }
 {
-    let s = port_words::loaded(state);
-    if port_words::is_saved(state, s) {
-        let a = router::run(s, area, table, words::fitted(limit));
-        let next = a.router;
-        *state = port_words::saved(next);
-        *out = [a.rounds, a.moved, a.errors];
-        a.refusal as u32
-    } else {
-        *out = [0, 0, 0];
-        1
-    }
+    let a = router_words::run(state, area, table, limit);
+    *out = [a.rounds, a.moved, a.errors];
+    a.refusal
 }
 
 #[no_mangle]
@@ -103,8 +78,8 @@ pub extern "C" fn neftolek_router_write_row(
     ensures { λ r. ⌜ (r ≡ rowRefused (now (state .entry)) row)
         × (now (table .exit) ≡ tableLeft (now (state .entry)) (now (table .entry)) row value) ⌝ }
 {
-    let s = port_words::loaded(state);
-    if port_words::is_saved(state, s) {
+    if port_words::is_router(state) {
+        let s = port_words::loaded(state);
         let number = router::write_row(s, table, words::wide(row), value);
         number as u32
     } else {
@@ -123,8 +98,8 @@ pub extern "C" fn neftolek_router_read_row(
     ensures { λ r. ⌜ (r ≡ rowLeft (now (state .entry)) (now (table .entry)) row .refusal)
         × (now (out .exit) ≡ rowLeft (now (state .entry)) (now (table .entry)) row .value ∷ []) ⌝ }
 {
-    let s = port_words::loaded(state);
-    if port_words::is_saved(state, s) {
+    if port_words::is_router(state) {
+        let s = port_words::loaded(state);
         let a = router::read_row(s, table, words::wide(row));
         *out = [a.value];
         a.refusal as u32

@@ -21,6 +21,7 @@ use Rattle.port_words.specs.RouterWords.{listed, modeWords, outputWords,
 use Rattle.port_words.specs.RouterWords.{wantedOf, modeOf, ownerOf, inputIn, outputIn, storeIn, routerOf}
 use Rattle.port_words.specs.RouterWords.{FitsMode, FitsOwner, FitsRouter}
 use Rattle.port_words.proofs.ListedLaws.{length-listed, getD-listed}
+use Rattle.port_words.proofs.PlaceWords.{mode-word, output-word, store-word, saved-word}
 
 mode-back : (m : Mode) → FitsMode m → modeOf (wordAt (modeWords m) 0) (wordAt (modeWords m) 1) (wordAt (modeWords m) 2) ≡ m
 unfolding modeOf wantedOf
@@ -38,38 +39,21 @@ last-back Free last f = mod-eq-of-lt f
 last-back (By i) last f = mod-eq-of-lt f
 
 module _ (r : Router) (fits : FitsRouter r) where
-  word-saved : (k : ℕ) → k < 110 → wordAt (routerWords r) k ≡ routerWord r k
-  unfolding routerWords
-  word-saved k h = getD-listed (routerWord r) 0 110 k 0 h ∙ ap (routerWord r) (let e : 0 + k ≡ k = omega arith in e)
-
-  mode-word : (p j : ℕ) → p < 11 → j < 3 → wordAt (routerWords r) (3 * p + j) ≡ wordAt (modeWords (modeAt r p)) j
-  mode-word p j h l =
-      word-saved (3 * p + j) (omega (arith, h, l))
-      ∙ rw (
-        lt-ltb (3 * p + j) 33 (omega (arith, h, l)),
-        let e : (3 * p + j) / 3 ≡ p = omega (arith, l) in e,
-        let e : (3 * p + j) % 3 ≡ j = omega (arith, l) in e,
-      )
+  mode-at : (p j : ℕ) → p < 11 → j < 3 → wordAt (routerWords r) (3 * p + j) ≡ wordAt (modeWords (modeAt r p)) j
+  mode-at p j h l = saved-word r (3 * p + j) (omega (arith, h, l)) ∙ mode-word r p j h l
 
   input-back : (p : ℕ) → p < 11 → inputIn (routerWords r) p ≡ getD (r .inputs) p idle
   unfolding inputIn
   input-back p h =
       let first : wordAt (routerWords r) (3 * p) ≡ wordAt (modeWords (modeAt r p)) 0 =
-      ap (wordAt (routerWords r)) (let e : 3 * p ≡ 3 * p + 0 = omega arith in e) ∙ mode-word p 0 h (omega arith) in
+      ap (wordAt (routerWords r)) (let e : 3 * p ≡ 3 * p + 0 = omega arith in e) ∙ mode-at p 0 h (omega arith) in
       let same : modeAt r p ≡ getD (r .inputs) p idle .mode = rw (lt-ltb p 11 h) in
       ap (λ (m : Mode). record { mode = m })
-      (rw (first, mode-word p 1 h (omega arith), mode-word p 2 h (omega arith)) (mode-back (modeAt r p) (fits .modes p h) ∙ same))
+      (rw (first, mode-at p 1 h (omega arith), mode-at p 2 h (omega arith)) (mode-back (modeAt r p) (fits .modes p h) ∙ same))
 
-  output-word : (p j : ℕ) → p < 11 → j < 3 →
+  output-at : (p j : ℕ) → p < 11 → j < 3 →
       wordAt (routerWords r) (3 * p + (33 + j)) ≡ wordAt (outputWords (outputAt r p .owner) (outputAt r p .last)) j
-  output-word p j h l =
-      word-saved (3 * p + (33 + j)) (omega (arith, h, l))
-      ∙ rw (
-        le-ltb (3 * p + (33 + j)) 33 (omega arith),
-        lt-ltb (3 * p + (33 + j)) 66 (omega (arith, h, l)),
-        let e : (3 * p + (33 + j) - 33) / 3 ≡ p = omega (arith, l) in e,
-        let e : (3 * p + (33 + j)) % 3 ≡ j = omega (arith, l) in e,
-      )
+  output-at p j h l = saved-word r (3 * p + (33 + j)) (omega (arith, h, l)) ∙ output-word r p j h l
 
   output-back : (p : ℕ) → p < 11 → outputIn (routerWords r) p ≡ getD (r .outputs) p noOutput
   unfolding outputIn
@@ -77,9 +61,9 @@ module _ (r : Router) (fits : FitsRouter r) where
       let out = outputAt r p in
       let same : out ≡ getD (r .outputs) p noOutput = rw (lt-ltb p 11 h) in
       let owner : ownerOf (wordAt (routerWords r) (3 * p + 33)) (wordAt (routerWords r) (3 * p + 34)) ≡ out .owner =
-      rw (output-word p 0 h (omega arith), output-word p 1 h (omega arith)) (owner-back (out .owner) (out .last) (fits .owners p h)) in
+      rw (output-at p 0 h (omega arith), output-at p 1 h (omega arith)) (owner-back (out .owner) (out .last) (fits .owners p h)) in
       let last : wordAt (routerWords r) (3 * p + 35) ≡ out .last =
-      output-word p 2 h (omega arith) ∙ last-back (out .owner) (out .last) (fits .lasts p h) in
+      output-at p 2 h (omega arith) ∙ last-back (out .owner) (out .last) (fits .lasts p h) in
       ap₂ (λ (w : Owner) (n : ℕ). record { owner = w; last = n }) owner last ∙ same
 
   store-back : (k : ℕ) → k < 22 → storeIn (routerWords r) k ≡ getD (r .stores) k freshStore
@@ -88,21 +72,9 @@ module _ (r : Router) (fits : FitsRouter r) where
       let st = storeAt r k in
       let same : st ≡ getD (r .stores) k freshStore = rw (lt-ltb k 22 h) in
       let front : wordAt (routerWords r) (2 * k + 66) ≡ st .front =
-      word-saved (2 * k + 66) (omega (arith, h))
-      ∙ rw (
-        le-ltb (2 * k + 66) 33 (omega arith),
-        le-ltb (2 * k + 66) 66 (omega arith),
-        let e : (2 * k + 66 - 66) / 2 ≡ k = omega arith in e,
-        let e : (2 * k + 66) % 2 ≡ 0 = omega arith in e,
-      ) (mod-eq-of-lt (fits .fronts k h)) in
+      saved-word r (2 * k + 66) (omega (arith, h)) ∙ store-word r k 0 (omega arith) ∙ mod-eq-of-lt (fits .fronts k h) in
       let len : wordAt (routerWords r) (2 * k + 67) ≡ st .len =
-      word-saved (2 * k + 67) (omega (arith, h))
-      ∙ rw (
-        le-ltb (2 * k + 67) 33 (omega arith),
-        le-ltb (2 * k + 67) 66 (omega arith),
-        let e : (2 * k + 67 - 66) / 2 ≡ k = omega arith in e,
-        let e : (2 * k + 67) % 2 ≡ 1 = omega arith in e,
-      ) (mod-eq-of-lt (fits .lens k h)) in
+      saved-word r (2 * k + 67) (omega (arith, h)) ∙ store-word r k 1 (omega arith) ∙ mod-eq-of-lt (fits .lens k h) in
       ap₂ (λ (a b : ℕ). record { front = a; len = b }) front len ∙ same
 
   back : routerOf (routerWords r) ≡ r

@@ -21,7 +21,7 @@ use Rattle.words.specs.Words.{storeWords}
 use Rattle.port_words.specs.RouterWords.{listed, modeWords, outputWords, routerWord, routerWords}
 use Rattle.port_words.specs.RouterWords.{withModeIn, withOutputIn, withStoreIn}
 use Rattle.port_words.proofs.ListedLaws.{length-listed, getD-listed}
-use Rattle.port_words.proofs.PlaceWords.{mode-length, output-length}
+use Rattle.port_words.proofs.PlaceWords.{mode-length, output-length, mode-word}
 
 -- a row of words is where it was written, and the words before and behind it are those that stood there
 
@@ -89,12 +89,7 @@ module _ (s : Router) (shape : Shape s) where
   module _ (i : ℕ) (m : Mode) (h : i < 11) where
     mode-there : (j : ℕ) → j < 3 → routerWord (withMode s i m) (3 * i + j) ≡ wordAt (modeWords m) j
     mode-there j l =
-        rw (
-          lt-ltb (3 * i + j) 33 (omega (arith, h, l)),
-          let e : (3 * i + j) / 3 ≡ i = omega (arith, l) in e,
-          let e : (3 * i + j) % 3 ≡ j = omega (arith, l) in e,
-          mode-changed s shape i m h .new,
-        )
+        mode-word (withMode s i m) i j h l ∙ ap (λ (n : Mode). wordAt (modeWords n) j) (mode-changed s shape i m h .new)
 
     mode-elsewhere : (k : ℕ) → (k < 33 → k / 3 ≡ i → ⊥) → routerWord (withMode s i m) k ≡ routerWord s k
     unfolding withMode

@@ -1,7 +1,7 @@
 -- What is kept of a port or store, read from its words alone; and words that stand in a row, written one by one.
 -- Assumes nothing.
-use Prim.Native.Nat.{ℕ, suc, _+_, _*_, _<_}
-use mathlib.Core.Path.{_≡_, refl}
+use Prim.Native.Nat.{ℕ, suc, _+_, _-_, _*_, _/_, _%_, _<_}
+use mathlib.Core.Path.{_≡_, refl, sym, ap, _∙_}
 use mathlib.Core.List.{List, [], _∷_}
 use native.Mathlib.Omega.{arith}
 use lib.ListN.{length, set}
@@ -10,7 +10,7 @@ use lib.Dec.{ltb}
 use mathlib.Core.Bool.{Bool, true, false}
 use Rattle.vocabulary.specs.Choice.{pick}
 use Rattle.store.specs.declared.Store.{Store}
-use borrow.Author.Tests.{lt-ltb}
+use borrow.Author.Tests.{lt-ltb, le-ltb}
 use Rattle.words.specs.Words.{wordAt}
 use Rattle.store.specs.Changes.{freshStore}
 use Rattle.ports.specs.Ports.{idle, noOutput, modeAt, outputAt, storeAt}
@@ -19,7 +19,8 @@ use Rattle.ports.specs.declared.Mode.the-variants.{Idle, Waiting, Routed, Spill
 use Rattle.ports.specs.declared.Owner.{Owner}
 use Rattle.ports.specs.declared.Owner.the-variants.{Free, By}
 use Rattle.words.specs.Words.{storeWords}
-use Rattle.port_words.specs.RouterWords.{modeWords, outputWords, withStoreIn}
+use Rattle.ports.specs.declared.Router.{Router}
+use Rattle.port_words.specs.RouterWords.{modeWords, outputWords, routerWord, routerWords, withStoreIn}
 use Rattle.port_words.specs.RouterWords.{inputIn, outputIn, storeIn, routerOf}
 use Rattle.port_words.proofs.ListedLaws.{getD-listed}
 
@@ -80,3 +81,37 @@ store-picked words k st old = go (ltb k 22)
         ≡ pick b (sets words (2 * k + 66) (storeWords st)) words
     go true = refl
     go false = refl
+
+-- where each word of a router is saved
+
+module _ (r : Router) where
+  pub mode-word : (p j : ℕ) → p < 11 → j < 3 → routerWord r (3 * p + j) ≡ wordAt (modeWords (modeAt r p)) j
+  mode-word p j h l =
+      rw (
+        lt-ltb (3 * p + j) 33 (omega (arith, h, l)),
+        let e : (3 * p + j) / 3 ≡ p = omega (arith, l) in e,
+        let e : (3 * p + j) % 3 ≡ j = omega (arith, l) in e,
+      )
+
+  pub output-word : (p j : ℕ) → p < 11 → j < 3 →
+      routerWord r (3 * p + (33 + j)) ≡ wordAt (outputWords (outputAt r p .owner) (outputAt r p .last)) j
+  output-word p j h l =
+      rw (
+        le-ltb (3 * p + (33 + j)) 33 (omega arith),
+        lt-ltb (3 * p + (33 + j)) 66 (omega (arith, h, l)),
+        let e : (3 * p + (33 + j) - 33) / 3 ≡ p = omega (arith, l) in e,
+        let e : (3 * p + (33 + j)) % 3 ≡ j = omega (arith, l) in e,
+      )
+
+  pub store-word : (k j : ℕ) → j < 2 → routerWord r (2 * k + (66 + j)) ≡ wordAt (storeWords (storeAt r k)) j
+  store-word k j l =
+      rw (
+        le-ltb (2 * k + (66 + j)) 33 (omega arith),
+        le-ltb (2 * k + (66 + j)) 66 (omega arith),
+        let e : (2 * k + (66 + j) - 66) / 2 ≡ k = omega (arith, l) in e,
+        let e : (2 * k + (66 + j)) % 2 ≡ j = omega (arith, l) in e,
+      )
+
+  pub saved-word : (k : ℕ) → k < 110 → wordAt (routerWords r) k ≡ routerWord r k
+  unfolding routerWords
+  saved-word k h = getD-listed (routerWord r) 0 110 k 0 h ∙ ap (routerWord r) (zero-add k)

@@ -3,7 +3,7 @@
 -- Assumes nothing.
 use Prim.Native.Nat.{ℕ, zero, suc, _+_, _-_, _*_, _/_, _%_, _^_, _<_}
 use mathlib.Core.Path.{_≡_}
-use mathlib.Core.Bool.{Bool, true, false}
+use mathlib.Core.Bool.{Bool, true, false, _&&_}
 use mathlib.Core.List.{List, [], _∷_}
 use lib.ListN.{length}
 use lib.Seq.{sets}
@@ -84,6 +84,23 @@ routerOf words =
 -- words that a router is saved as
 abbrev pub isRouter : List ℕ → Bool
 isRouter words = same words (routerWords (routerOf words))
+
+-- word by word, and all the words of one port: those of its input, its output and its two stores
+abbrev pub rightAt : List ℕ → ℕ → Bool
+rightAt words k = eqb (wordAt words k) (routerWord (routerOf words) k)
+
+abbrev pub rightMode : List ℕ → ℕ → Bool
+rightMode words p = rightAt words (3 * p) && (rightAt words (3 * p + 1) && rightAt words (3 * p + 2))
+
+abbrev pub rightOutput : List ℕ → ℕ → Bool
+rightOutput words p = rightAt words (3 * p + 33) && (rightAt words (3 * p + 34) && rightAt words (3 * p + 35))
+
+abbrev pub rightStore : List ℕ → ℕ → Bool
+rightStore words k = rightAt words (2 * k + 66) && rightAt words (2 * k + 67)
+
+abbrev pub rightPort : List ℕ → ℕ → Bool
+rightPort words p =
+    rightMode words p && (rightOutput words p && (rightStore words p && rightStore words (11 + p)))
 
 -- in place: the words of one input, output or store are written, and no other; past the last, none
 unfoldable pub withModeIn : List ℕ → ℕ → Mode → List ℕ

@@ -1,10 +1,15 @@
 // The 110 words of a router.
 ghost use mathlib.Core.Path.{_≡_};
+ghost use mathlib.Core.Bool.{not};
+ghost use lib.Dec.{eqb};
+ghost use lib.ListN.{length};
 ghost use Prim.Native.Nat.{_<_};
 ghost use Rattle.store.specs.Ring.{empty};
 ghost use Rattle.ports.specs.Ports.{modeAt, outputAt, storeAt};
 ghost use Rattle.ports.specs.Places.{machine, fullAt, frontAt, putAt};
-ghost use Rattle.words.specs.Words.{wordAt, same, storeWords};
+ghost use Rattle.ports.specs.Refusals.{isOwner, badMode, badOwner, badOutput, badPort, badPorts, badStores};
+ghost use Rattle.port_words.specs.RouterWords.{rightMode, rightOutput, rightStore, rightPort, isRouter};
+ghost use Rattle.words.specs.Words.{wordAt, storeWords};
 ghost use Rattle.port_words.specs.RouterWords.{listed, modeWords, outputWords, routerWord, routerWords};
 ghost use Rattle.port_words.specs.RouterWords.{withModeIn, withOutputIn, withStoreIn, withoutFrontIn, withBehindIn};
 ghost use Rattle.port_words.specs.RouterWords.{wantedOf, modeOf, ownerOf, inputIn, outputIn, storeIn, routerOf};
@@ -206,14 +211,6 @@ pub fn loaded(words: &[u32; 110]) -> Router
     }
 }
 
-// Whether the words are those that the router is saved as.
-pub fn is_saved(words: &[u32; 110], r: Router) -> bool
-    ensures { λ b. ⌜ b ≡ same (now (words .entry)) (routerWords r) ⌝ }
-{
-    let own = saved(r);
-    words::same(words, &own)
-}
-
 // The router in place: what is kept of one port or store is read from its words and written to them.
 pub fn mode_at(words: &[u32; 110], i: usize) -> Mode
     ensures { λ r. ⌜ r ≡ modeAt (routerOf (now (words .entry))) i ⌝ }
@@ -319,4 +316,179 @@ pub fn append(words: &mut [u32; 110], area: &mut [u16], k: usize, n: u16)
 {
     let next = ports::put_of(store_at(words, k), area, k, n);
     set_store(words, k, next);
+}
+
+fn right_mode(words: &[u32; 110], p: usize) -> bool
+    requires { ⌜ p < 11 ⌝ }
+    ensures { λ r. ⌜ r ≡ rightMode (now (words .entry)) p ⌝ }
+{
+    let row = mode_words(mode_at(words, p));
+    let at = 3 * p;
+    if words[at] == row[0] {
+        if words[at + 1] == row[1] {
+            words[at + 2] == row[2]
+        } else {
+            false
+        }
+    } else {
+        false
+    }
+}
+
+fn right_output(words: &[u32; 110], p: usize) -> bool
+    requires { ⌜ p < 11 ⌝ }
+    ensures { λ r. ⌜ r ≡ rightOutput (now (words .entry)) p ⌝ }
+{
+    let out = output_at(words, p);
+    let owner = out.owner;
+    let row = output_words(owner, out.last);
+    let at = 3 * p;
+    if words[at + 33] == row[0] {
+        if words[at + 34] == row[1] {
+            words[at + 35] == row[2]
+        } else {
+            false
+        }
+    } else {
+        false
+    }
+}
+
+fn right_store(words: &[u32; 110], k: usize) -> bool
+    requires { ⌜ k < 22 ⌝ }
+    ensures { λ r. ⌜ r ≡ rightStore (now (words .entry)) k ⌝ }
+{
+    let row = store_words(store_at(words, k));
+    let at = 2 * k;
+    if words[at + 66] == row[0] {
+        words[at + 67] == row[1]
+    } else {
+        false
+    }
+}
+
+fn right_port(words: &[u32; 110], p: usize) -> bool
+    requires { ⌜ p < 11 ⌝ }
+    ensures { λ r. ⌜ r ≡ rightPort (now (words .entry)) p ⌝ }
+{
+    if right_mode(words, p) {
+        if right_output(words, p) {
+            if right_store(words, p) {
+                right_store(words, 11 + p)
+            } else {
+                false
+            }
+        } else {
+            false
+        }
+    } else {
+        false
+    }
+}
+
+fn other_length(words: &[u32]) -> bool
+    ensures { λ r. ⌜ r ≡ not (eqb (length (now (words .entry))) 110) ⌝ }
+{
+    words.len() != 110
+}
+
+// Whether the words are those that the router which they load as is saved as.
+pub fn is_router(words: &[u32; 110]) -> bool
+    ensures { λ r. ⌜ r ≡ isRouter (now (words .entry)) ⌝ }
+{
+    if other_length(words) {
+        return false;
+    }
+    let mut p = 0;
+    while p < 11 {
+        if right_port(words, p) {
+            p = p + 1;
+        } else {
+            return false;
+        }
+    }
+    true
+}
+
+fn owned_by(words: &[u32; 110], o: usize, i: usize) -> bool
+    ensures { λ r. ⌜ r ≡ isOwner (outputAt (routerOf (now (words .entry))) o .owner) i ⌝ }
+{
+    let out = output_at(words, o);
+    let owner = out.owner;
+    ports::is_owner(owner, i)
+}
+
+fn bad_mode(words: &[u32; 110], i: usize, m: Mode) -> bool
+    ensures { λ r. ⌜ r ≡ badMode (routerOf (now (words .entry))) i m ⌝ }
+{
+    match m {
+        Mode::Idle => false,
+        Mode::Waiting(w) => ports::bad_wanted(w),
+        Mode::Routed(o) => if 10 < o { true } else { !owned_by(words, o, i) },
+        Mode::Spilling => false,
+    }
+}
+
+fn bad_owner(words: &[u32; 110], o: usize, w: Owner) -> bool
+    ensures { λ r. ⌜ r ≡ badOwner (routerOf (now (words .entry))) o w ⌝ }
+{
+    match w {
+        Owner::Free => false,
+        Owner::By(i) => if 10 < i {
+            true
+        } else {
+            !ports::is_routed(mode_at(words, i), o)
+        },
+    }
+}
+
+fn bad_output(words: &[u32; 110], p: usize) -> bool
+    ensures { λ r. ⌜ r ≡ badOutput (routerOf (now (words .entry))) p ⌝ }
+{
+    let out = output_at(words, p);
+    let owner = out.owner;
+    let last = out.last;
+    if bad_owner(words, p, owner) {
+        true
+    } else {
+        10 < last
+    }
+}
+
+fn bad_port(words: &[u32; 110], p: usize) -> bool
+    ensures { λ r. ⌜ r ≡ badPort (routerOf (now (words .entry))) p ⌝ }
+{
+    if bad_mode(words, p, mode_at(words, p)) {
+        true
+    } else {
+        bad_output(words, p)
+    }
+}
+
+// The tests of the state, on its words.
+pub fn bad_ports(words: &[u32; 110]) -> bool
+    ensures { λ r. ⌜ r ≡ badPorts (routerOf (now (words .entry))) ⌝ }
+{
+    let mut p = 0;
+    while p < 11 {
+        if bad_port(words, p) {
+            return true;
+        }
+        p = p + 1;
+    }
+    false
+}
+
+pub fn bad_stores(words: &[u32; 110], area: &[u16]) -> bool
+    ensures { λ r. ⌜ r ≡ badStores (routerOf (now (words .entry))) (now (area .entry)) ⌝ }
+{
+    let size = area.len() / 22;
+    let mut k = 0;
+    while k < 22 {
+        if store::bad(store_at(words, k), size) {
+            return true;
+        }
+        k = k + 1;
+    }
+    false
 }

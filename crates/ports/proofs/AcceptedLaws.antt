@@ -1,17 +1,15 @@
 -- A state that is not refused as STATE is sound: its ports agree, and its stores fit their places.
 -- Assumes nothing.
-use mathlib.Core.Path.{_≡_, refl, ap, _∙_}
+use mathlib.Core.Path.{_≡_, refl, ap}
 use mathlib.Core.Bool.{Bool, true, false, false≢true, not, _||_}
 use mathlib.Core.List.{List}
-use Prim.Native.Nat.{ℕ, zero, suc, _+_, _≤_, _<_}
-use native.Mathlib.Decide.{ℕ-discrete}
+use Prim.Native.Nat.{ℕ, _<_}
 use native.Mathlib.Omega.{arith}
 use lib.Dec.{eqb, ltb}
 use lib.ListN.{length}
 use borrow.Author.Tests.{ltb-false, eqb-true, not-false}
 use Rattle.store.specs.Ring.{badStore}
 use Rattle.store.proofs.OrLaws.{or-left, or-right}
-use Rattle.ports.specs.Each.{any}
 use Rattle.ports.specs.Ports.{modeAt, outputAt, storeAt}
 use Rattle.ports.specs.Places.{machine, sizeIn}
 use Rattle.ports.specs.Refusals.{isOwner, isRouted, badMode, badOwner, badOutput, badPort, badPorts, badStores}
@@ -20,20 +18,9 @@ use Rattle.ports.specs.declared.Mode.the-variants.{Idle, Waiting, Routed
 use Rattle.ports.specs.declared.Owner.{Owner}
 use Rattle.ports.specs.declared.Owner.the-variants.{Free, By}
 use Rattle.ports.specs.declared.Router.{Router}
+use Rattle.ports.proofs.EachLaws.{none-at}
 use Rattle.ports.proofs.PortLaws.{ModeOk, OwnerOk, Agree}
 use Rattle.ports.proofs.StateLaws.{Shape, Sound}
-
-none-at : (f : ℕ → Bool) (from count k : ℕ) → any f from count ≡ false → from ≤ k → k < from + count → f k ≡ false
-unfolding any
-none-at f from zero k e h l = absurd (omega (arith, h, l))
-none-at f from (suc count) k e h l = go (ℕ-discrete k from) (none-at f (from + 1) count k rest)
-  where
-    rest : any f (from + 1) count ≡ false
-    rest = or-right (f from) (any f (from + 1) count) e
-
-    go : Dec (k ≡ from) → (from + 1 ≤ k → k < from + 1 + count → f k ≡ false) → f k ≡ false
-    go (yes s) later = ap f s ∙ or-left (f from) (any f (from + 1) count) e
-    go (no d) later = later (omega (arith, h, d)) (omega (arith, l))
 
 owner-is : (w : Owner) (i : ℕ) → isOwner w i ≡ true → w ≡ By i
 owner-is Free i e = absurd (false≢true e)

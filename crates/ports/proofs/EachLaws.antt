@@ -1,9 +1,11 @@
 -- A range of numbers, taken from its first on: what the loops over ports and stores follow.
 -- Assumes nothing.
-use mathlib.Core.Path.{_≡_, ap}
+use mathlib.Core.Path.{_≡_, ap, _∙_}
 use mathlib.Core.Bool.{Bool, false, _||_}
-use Prim.Native.Nat.{ℕ, suc, _+_, _-_, _≤_, _<_}
+use Prim.Native.Nat.{ℕ, zero, suc, _+_, _-_, _≤_, _<_}
+use native.Mathlib.Decide.{ℕ-discrete}
 use native.Mathlib.Omega.{arith}
+use Rattle.store.proofs.OrLaws.{or-left, or-right}
 use Rattle.ports.specs.Each.{each, any}
 
 some-left : (i n : ℕ) → i < n → n - i ≡ suc (n - (i + 1))
@@ -29,3 +31,16 @@ module _ (f : ℕ → Bool) (i n : ℕ) where
   pub any-done : n ≤ i → any f i (n - i) ≡ false
   unfolding any
   any-done h = ap (any f i) (none-left i n h)
+
+-- where none of a range passes, each of it does not
+pub none-at : (f : ℕ → Bool) (from count k : ℕ) → any f from count ≡ false → from ≤ k → k < from + count → f k ≡ false
+unfolding any
+none-at f from zero k e h l = absurd (omega (arith, h, l))
+none-at f from (suc count) k e h l = go (ℕ-discrete k from) (none-at f (from + 1) count k rest)
+  where
+    rest : any f (from + 1) count ≡ false
+    rest = or-right (f from) (any f (from + 1) count) e
+
+    go : Dec (k ≡ from) → (from + 1 ≤ k → k < from + 1 + count → f k ≡ false) → f k ≡ false
+    go (yes s) later = ap f s ∙ or-left (f from) (any f (from + 1) count) e
+    go (no d) later = later (omega (arith, h, d)) (omega (arith, l))

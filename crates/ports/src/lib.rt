@@ -1,6 +1,6 @@
 // The router's eleven ports (01, The router): what is kept of each, and their 22 stores in one lent area.
 ghost use mathlib.Core.Path.{_≡_};
-ghost use Rattle.ports.specs.Ports.{freshRouter, modeAt, outputAt, storeAt, withMode, withOutput, withStore};
+ghost use Rattle.ports.specs.Ports.{freshRouter, modeAt, outputAt, storeAt, withStore};
 ghost use Rattle.ports.specs.Numbers.{modeNumber, wantsNothing, modeWanted, modeOutput, ownerNumber, ownerInput};
 ghost use Rattle.ports.specs.Places.{machine, sizeIn, badArea, placesAt, putAt};
 ghost use Rattle.ports.specs.Places.{fullAt, frontAt, withoutFront, withBehind};
@@ -157,27 +157,7 @@ pub fn store_at(s: Router, k: usize) -> Store
     if k < 22 { s.stores[k] } else { store::fresh() }
 }
 
-pub fn with_mode(s: Router, i: usize, m: Mode) -> Router
-    ensures { λ r. ⌜ r ≡ withMode s i m ⌝ }
-{
-    let mut t = s;
-    if i < 11 {
-        t.inputs[i] = Input { mode: m };
-    }
-    t
-}
-
-pub fn with_output(s: Router, o: usize, out: Output) -> Router
-    ensures { λ r. ⌜ r ≡ withOutput s o out ⌝ }
-{
-    let mut t = s;
-    if o < 11 {
-        t.outputs[o] = out;
-    }
-    t
-}
-
-pub fn with_store(s: Router, k: usize, st: Store) -> Router
+fn with_store(s: Router, k: usize, st: Store) -> Router
     ensures { λ r. ⌜ r ≡ withStore s k st ⌝ }
 {
     let mut t = s;
@@ -279,7 +259,7 @@ pub fn bad_area(area: &[u16]) -> bool
     }
 }
 
-fn is_owner(w: Owner, i: usize) -> bool
+pub fn is_owner(w: Owner, i: usize) -> bool
     ensures { λ r. ⌜ r ≡ isOwner w i ⌝ }
 {
     match w {
@@ -288,7 +268,7 @@ fn is_owner(w: Owner, i: usize) -> bool
     }
 }
 
-fn is_routed(m: Mode, o: usize) -> bool
+pub fn is_routed(m: Mode, o: usize) -> bool
     ensures { λ r. ⌜ r ≡ isRouted m o ⌝ }
 {
     match m {
@@ -307,7 +287,7 @@ fn owned_by(s: Router, o: usize, i: usize) -> bool
     is_owner(owner, i)
 }
 
-fn bad_wanted(w: Wanted) -> bool
+pub fn bad_wanted(w: Wanted) -> bool
     ensures { λ r. ⌜ r ≡ badWanted w ⌝ }
 {
     let ports = w.ports;

@@ -22,12 +22,6 @@ use Rattle.ports.proofs.output_at.Kinds as output-at-kinds
 use Rattle.ports.proofs.output_at.Reads as output-at-reads
 use Rattle.ports.proofs.store_at.Kinds as store-at-kinds
 use Rattle.ports.proofs.store_at.Reads as store-at-reads
-use Rattle.ports.proofs.with_mode.Kinds as with-mode-kinds
-use Rattle.ports.proofs.with_mode.Reads as with-mode-reads
-use Rattle.ports.proofs.with_output.Kinds as with-output-kinds
-use Rattle.ports.proofs.with_output.Reads as with-output-reads
-use Rattle.ports.proofs.with_store.Kinds as with-store-kinds
-use Rattle.ports.proofs.with_store.Reads as with-store-reads
 use Rattle.ports.proofs.empty_at.Kinds as empty-at-kinds
 use Rattle.ports.proofs.empty_at.Reads as empty-at-reads
 use Rattle.ports.proofs.full_at.Kinds as full-at-kinds
@@ -44,6 +38,18 @@ use Rattle.ports.proofs.bad_ports.Kinds as bad-ports-kinds
 use Rattle.ports.proofs.bad_ports.Reads as bad-ports-reads
 use Rattle.ports.proofs.bad_stores.Kinds as bad-stores-kinds
 use Rattle.ports.proofs.bad_stores.Reads as bad-stores-reads
+use Rattle.ports.proofs.is_owner.Kinds as is-owner-kinds
+use Rattle.ports.proofs.is_owner.Reads as is-owner-reads
+use Rattle.ports.proofs.is_routed.Kinds as is-routed-kinds
+use Rattle.ports.proofs.is_routed.Reads as is-routed-reads
+use Rattle.ports.proofs.bad_wanted.Kinds as bad-wanted-kinds
+use Rattle.ports.proofs.bad_wanted.Reads as bad-wanted-reads
+use Rattle.ports.proofs.front_of.Kinds as front-of-kinds
+use Rattle.ports.proofs.front_of.Reads as front-of-reads
+use Rattle.ports.proofs.drop_of.Kinds as drop-of-kinds
+use Rattle.ports.proofs.drop_of.Reads as drop-of-reads
+use Rattle.ports.proofs.put_of.Kinds as put-of-kinds
+use Rattle.ports.proofs.put_of.Reads as put-of-reads
 
 pub fresh : OneResult 0 fresh-kinds.ps fresh-kinds.r fresh-reads.Post
 fresh κs a x y s t p q = p ∙ sym q
@@ -56,15 +62,6 @@ output-at κs a x y s t p q = p ∙ sym q
 
 pub store-at : OneResult 0 store-at-kinds.ps store-at-kinds.r store-at-reads.Post
 store-at κs a x y s t p q = p ∙ sym q
-
-pub with-mode : OneResult 0 with-mode-kinds.ps with-mode-kinds.r with-mode-reads.Post
-with-mode κs a x y s t p q = p ∙ sym q
-
-pub with-output : OneResult 0 with-output-kinds.ps with-output-kinds.r with-output-reads.Post
-with-output κs a x y s t p q = p ∙ sym q
-
-pub with-store : OneResult 0 with-store-kinds.ps with-store-kinds.r with-store-reads.Post
-with-store κs a x y s t p q = p ∙ sym q
 
 pub empty-at : OneResult 0 empty-at-kinds.ps empty-at-kinds.r empty-at-reads.Post
 empty-at κs a x y s t p q = p ∙ sym q
@@ -107,3 +104,24 @@ owner-number κs a x y s t p q = p ∙ sym q
 
 pub owner-input : OneResult 0 owner-input-kinds.ps owner-input-kinds.r owner-input-reads.Post
 owner-input κs a x y s t p q = p ∙ sym q
+
+pub is-owner : OneResult 0 is-owner-kinds.ps is-owner-kinds.r is-owner-reads.Post
+is-owner κs a x y s t p q = p ∙ sym q
+
+pub is-routed : OneResult 0 is-routed-kinds.ps is-routed-kinds.r is-routed-reads.Post
+is-routed κs a x y s t p q = p ∙ sym q
+
+pub bad-wanted : OneResult 0 bad-wanted-kinds.ps bad-wanted-kinds.r bad-wanted-reads.Post
+bad-wanted κs a x y s t p q = p ∙ sym q
+
+pub front-of : OneResult 1 front-of-kinds.ps front-of-kinds.r front-of-reads.Post
+front-of κs a x y s t p q = p ∙ sym q
+
+pub drop-of : OneResult 1 drop-of-kinds.ps drop-of-kinds.r drop-of-reads.Post
+drop-of κs a x y s t p q = p ∙ sym q
+
+pub put-of : OneResult 1 put-of-kinds.ps put-of-kinds.r put-of-reads.Post
+put-of κs a x y s t p q = p .0 ∙ sym (q .0)
+
+pub put-of-area : OnePlaces 1 put-of-kinds.ps put-of-kinds.r put-of-reads.Post (λ κs s. now (s .1 .0))
+put-of-area κs a x y s t p q = p .1 ∙ sym (q .1)

@@ -3,18 +3,17 @@
 use mathlib.Core.Path.{_≡_, sym, ap, _∙_}
 use denote.Ref.{now}
 use Rattle.promises.specs.OneAnswer.{OneResult, OnePlaces}
-use Rattle.ports.specs.Places.{Machine}
 use Rattle.rounds.specs.Acts.{Tally}
-use Rattle.rounds.specs.declared.Progress.{Progress}
-use Rattle.rounds.proofs.run.Kinds as run-kinds
-use Rattle.rounds.proofs.run.Reads as run-reads
+use Rattle.rounds.specs.InWords.{Words}
+use Rattle.rounds.specs.declared.Totals.{Totals}
+use Rattle.rounds.proofs.run_in_place.Kinds as run-kinds
+use Rattle.rounds.proofs.run_in_place.Reads as run-reads
 
-pub run : OneResult 2 run-kinds.ps run-kinds.r run-reads.Post
+pub run : OneResult 3 run-kinds.ps run-kinds.r run-reads.Post
 run κs a x y s t p q =
-    ap {B = Progress}
-    (λ (m : Tally Machine).
+    ap {B = Totals}
+    (λ (m : Tally Words).
     record {
-      router = m .now .router;
       rounds = m .rounds;
       moved = m .moved;
       errors = m .errors;
@@ -22,5 +21,8 @@ run κs a x y s t p q =
     })
     (p ∙ sym q)
 
-pub run-area : OnePlaces 2 run-kinds.ps run-kinds.r run-reads.Post (λ κs s. now (s .1 .0))
-run-area κs a x y s t p q = ap (λ (m : Tally Machine). m .now .area) (p ∙ sym q)
+pub run-state : OnePlaces 3 run-kinds.ps run-kinds.r run-reads.Post (λ κs s. now (s .0))
+run-state κs a x y s t p q = ap (λ (m : Tally Words). m .now .state) (p ∙ sym q)
+
+pub run-area : OnePlaces 3 run-kinds.ps run-kinds.r run-reads.Post (λ κs s. now (s .1 .0))
+run-area κs a x y s t p q = ap (λ (m : Tally Words). m .now .area) (p ∙ sym q)

@@ -1,7 +1,7 @@
 -- The candidates for an output, one by one: the k-th is the input k + 1 behind the last granted, at high priority below 11.
 -- Assumes nothing.
 use mathlib.Core.Path.{_≡_, refl, sym, ap, _∙_}
-use mathlib.Core.Bool.{Bool, true, false}
+use mathlib.Core.Bool.{Bool, true, false, false≢true}
 use mathlib.Core.List.{List, [], _∷_, _++_}
 use Prim.Native.Nat.{ℕ, zero, suc, _+_, _-_, _%_, _≤_, _<_}
 use native.Mathlib.Nat.{add-zero, not-suc-le-zero}
@@ -12,7 +12,17 @@ use lib.Dec.{ltb}
 use lib.ListN.{drop, length, drop-of-length-le}
 use lib.Seq.{drop-append-le, drop-append-add}
 use borrow.Author.Tests.{lt-ltb, le-ltb}
+use Rattle.vocabulary.specs.Choice.{pick}
+use Rattle.ports.specs.Each.{each, any}
+use Rattle.ports.specs.Ports.{modeAt}
+use Rattle.ports.specs.declared.Mode.{Mode}
+use Rattle.ports.specs.declared.Mode.the-variants.{Idle, Waiting, Routed, Spilling}
+use Rattle.ports.proofs.EachLaws.{none-at}
+use Rattle.port_words.specs.RouterWords.{routerOf}
+use Rattle.rounds.specs.Acts.{Acts, Tally}
 use Rattle.rounds.specs.Grants.{Candidate, Choice, nobody, input, cyclic, candidates, firstThat}
+use Rattle.rounds.specs.Grants.{isFree, waitsFor, fits, grantsTo, grants, part2}
+use Rattle.rounds.specs.InWords.{isWaiting}
 
 abbrev pub candidate : ℕ → ℕ → Candidate
 candidate last k = record { high = ltb k 11; input = (last + (k + 1)) % 11 }
@@ -89,3 +99,46 @@ module _ (fits : Candidate → Bool) (last k : ℕ) where
   pub runs-out : 22 ≤ k → left k ≡ nobody
   unfolding firstThat
   runs-out h = ap (firstThat fits) (no-more last k h)
+
+-- where no input waits, part 2 does nothing
+
+not-waiting : (o : ℕ) (high : Bool) (m : Mode) → isWaiting m ≡ false → waitsFor o high m ≡ false
+not-waiting o high Idle e = refl
+not-waiting o high (Waiting w) e = absurd (false≢true (sym e))
+not-waiting o high (Routed p) e = refl
+not-waiting o high Spilling e = refl
+
+none-fits : (fit : Candidate → Bool) → ((c : Candidate) → fit c ≡ false) → (cs : List Candidate) → firstThat fit cs ≡ nobody
+unfolding firstThat
+none-fits fit none [] = refl
+none-fits fit none (c ∷ cs) = rw (none c, none-fits fit none cs)
+
+each-none : {S : Type 0} (f : S → ℕ → S) (s : S) → ((i : ℕ) → f s i ≡ s) → (from count : ℕ) → each f from count s ≡ s
+unfolding each
+each-none f s none from zero = refl
+each-none f s none from (suc count) = rw (none from, each-none f s none (from + 1) count)
+
+module _ {X : Type 0} (M : Acts X) (t : Tally X) (none : (i : ℕ) → isWaiting (M .mode (t .now) i) ≡ false) where
+  grants-nobody : (o : ℕ) → grants M t o ≡ t
+  unfolding grants
+  grants-nobody o =
+      ap (λ (c : Choice). pick (isFree (M .output (t .now) o .owner)) (grantsTo M t o c) t)
+      (none-fits (fits M (t .now) o) (λ c. not-waiting o (c .high) (M .mode (t .now) (c .input)) (none (c .input)))
+      (candidates (M .output (t .now) o .last)))
+      ∙ go (isFree (M .output (t .now) o .owner))
+    where
+      go : (b : Bool) → pick b t t ≡ t
+      go true = refl
+      go false = refl
+
+  pub nobody-waits : part2 M t ≡ t
+  unfolding part2
+  nobody-waits = each-none (grants M) t grants-nobody 0 11
+
+pub none-waits : (state : List ℕ) → any (λ (i : ℕ). isWaiting (modeAt (routerOf state) i)) 0 11 ≡ false →
+    (i : ℕ) → isWaiting (modeAt (routerOf state) i) ≡ false
+none-waits state e i = go (decLt i 11)
+  where
+    go : Dec (i < 11) → isWaiting (modeAt (routerOf state) i) ≡ false
+    go (yes h) = none-at (λ (j : ℕ). isWaiting (modeAt (routerOf state) j)) 0 11 i e (omega arith) (omega (arith, h))
+    go (no d) = rw (le-ltb i 11 (omega (arith, d)))

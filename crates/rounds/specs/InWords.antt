@@ -3,10 +3,12 @@
 -- Assumes nothing.
 use Prim.Native.Nat.{ℕ}
 use mathlib.Core.Path.{_≡_}
+use mathlib.Core.Bool.{Bool, true, false}
 use mathlib.Core.List.{List}
 use Rattle.ports.specs.Ports.{modeAt, outputAt, storeAt}
 use Rattle.ports.specs.Places.{Machine, machine, emptyAt, fullAt, frontAt, putAt}
 use Rattle.ports.specs.declared.Mode.{Mode}
+use Rattle.ports.specs.declared.Mode.the-variants.{Idle, Waiting, Routed, Spilling}
 use Rattle.ports.specs.declared.Output.{Output}
 use Rattle.port_words.specs.RouterWords.{routerOf, routerWords, withModeIn, withOutputIn, withoutFrontIn, withBehindIn}
 use Rattle.rounds.specs.Acts.{Acts, Tally}
@@ -40,6 +42,13 @@ inWords =
 -- what a function of rounds has counted, with the words as they stand
 abbrev pub tally : Totals → Words → Tally Words
 tally c w = record { now = w; rounds = c .rounds; moved = c .moved; errors = c .errors; changed = c .changed }
+
+-- "the waiting inputs", whatever they want: where there is none, nothing is granted
+abbrev pub isWaiting : Mode → Bool
+isWaiting Idle = false
+isWaiting (Waiting w) = true
+isWaiting (Routed o) = false
+isWaiting Spilling = false
 
 -- the words that a state and its area are saved as
 abbrev pub savedOf : Machine → Words

@@ -4,7 +4,8 @@ ghost use mathlib.Core.Bool.{not};
 ghost use mathlib.Core.List.{List};
 ghost use Prim.Native.Nat.{ℕ, _<_, _+_, _%_};
 ghost use Rattle.rounds.specs.Grants.{isFree, waitsFor, granted, part2};
-ghost use Rattle.rounds.specs.InWords.{kept, inWords, tally};
+ghost use Rattle.rounds.specs.InWords.{kept, inWords, tally, isWaiting};
+ghost use Rattle.ports.specs.Each.{any};
 ghost use Rattle.ports.specs.Ports.{wants, modeAt, outputAt};
 ghost use Rattle.port_words.specs.RouterWords.{routerOf};
 use crate::Totals;
@@ -86,8 +87,32 @@ fn grant(c: Totals, state: &mut [u32; 110], o: usize, i: usize) -> Totals
     counts::mark(c)
 }
 
+fn is_waiting(m: Mode) -> bool
+    ensures { λ r. ⌜ r ≡ isWaiting m ⌝ }
+{
+    match m {
+        Mode::Idle => false,
+        Mode::Waiting(_) => true,
+        Mode::Routed(_) => false,
+        Mode::Spilling => false,
+    }
+}
+
+fn some_wait(state: &[u32; 110]) -> bool
+    ensures { λ r. ⌜ r ≡ any (λ i. isWaiting (modeAt (routerOf (now (state .entry))) i)) 0 11 ⌝ }
+{
+    let mut i = 0;
+    while i < 11 {
+        if is_waiting(port_words::mode_at(state, i)) {
+            return true;
+        }
+        i = i + 1;
+    }
+    false
+}
+
 // Candidates 0 to 10 are the inputs in cyclic order at high priority, 11 to 21 the same at low.
-pub(crate) fn grant_all(c: Totals, state: &mut [u32; 110]) -> Totals
+fn grant_each(c: Totals, state: &mut [u32; 110]) -> Totals
     ensures { λ r. ⌜ ((area : List ℕ) → tally r (kept (now (state .exit)) area) ≡ part2 inWords (tally c (kept (now (state .entry)) area))) ⌝ }
 {
     let mut q = c;
@@ -111,4 +136,15 @@ pub(crate) fn grant_all(c: Totals, state: &mut [u32; 110]) -> Totals
         o = o + 1;
     }
     q
+}
+
+// Where no input waits, no output is looked at.
+pub(crate) fn grant_all(c: Totals, state: &mut [u32; 110]) -> Totals
+    ensures { λ r. ⌜ ((area : List ℕ) → tally r (kept (now (state .exit)) area) ≡ part2 inWords (tally c (kept (now (state .entry)) area))) ⌝ }
+{
+    if some_wait(state) {
+        grant_each(c, state)
+    } else {
+        c
+    }
 }

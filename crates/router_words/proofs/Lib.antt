@@ -1,1 +1,2 @@
+pub mod InPlaceLaws
 pub mod StayLaws

@@ -1,0 +1,14 @@
+-- `router_words::run_refusal` meets its contract.
+-- Assumes nothing.
+use borrow.Author.Needs.{needs}
+use mathlib.Core.Path.{sym, _∙_}
+use Rattle.router_words.proofs.run_refusal.Statement.{statement}
+use Rattle.router_words.proofs.run_refusal.Tie as tie
+
+pub run-refusal-spec : {M : Type 1} → statement M
+run-refusal-spec =
+    tie.close
+    (tie.spec
+    (λ c κs. search needs)
+    (λ c κs. search needs)
+    (λ c. c .lent-refusal .ensures ∙ sym (rw (← c .before .refuse .ensures))))
