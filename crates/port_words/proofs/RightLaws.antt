@@ -13,7 +13,8 @@ use borrow.Author.Tests.{eq-eqb, eqb-true}
 use Rattle.words.specs.Words.{wordAt, same}
 use Rattle.words.proofs.SameLaws.{same-is, same-itself, same-lengths}
 use Rattle.ports.specs.Ports.{modeAt, outputAt, storeAt}
-use Rattle.port_words.specs.RouterWords.{listed, modeWords, outputWords, storeWords, routerWord, routerWords, routerOf}
+use Rattle.words.specs.Words.{storeWords}
+use Rattle.port_words.specs.RouterWords.{listed, modeWords, outputWords, routerWord, routerWords, routerOf}
 use Rattle.port_words.specs.RouterWords.{rightAt, rightMode, rightOutput, rightStore, rightPort, isRouter}
 use Rattle.port_words.proofs.ListedLaws.{length-listed}
 use Rattle.port_words.proofs.PlaceWords.{mode-word, output-word, store-word, saved-word}

@@ -358,7 +358,7 @@ fn right_store(words: &[u32; 110], k: usize) -> bool
     requires { ⌜ k < 22 ⌝ }
     ensures { λ r. ⌜ r ≡ rightStore (now (words .entry)) k ⌝ }
 {
-    let row = store_words(store_at(words, k));
+    let row = words::store_words(store_at(words, k));
     let at = 2 * k;
     if words[at + 66] == row[0] {
         words[at + 67] == row[1]

@@ -16,31 +16,5 @@ neftolek-router-read-row-spec =
     (λ c κs. search needs)
     (λ c κs. search needs)
     (λ c. search needs)
-    (λ c. (
-      rw (
-        ← c .before .before .before .before .before .before .loaded .ensures,
-        ← c .before .before .before .before .before .is-saved .ensures,
-        c .before .before .before .before .if1 .taken,
-        ← c .before .before .before .wide .ensures,
-        ← c .before .before .read-row .ensures,
-      ),
-      rw (
-        ← c .before .before .before .before .before .before .loaded .ensures,
-        ← c .before .before .before .before .before .is-saved .ensures,
-        c .before .before .before .before .if1 .taken,
-        ← c .before .before .before .wide .ensures,
-        ← c .before .before .read-row .ensures,
-      ),
-    ))
-    (λ c. (
-      rw (
-        ← c .before .before .before .loaded .ensures,
-        ← c .before .before .is-saved .ensures,
-        c .before .if1 .left,
-      ),
-      rw (
-        ← c .before .before .before .loaded .ensures,
-        ← c .before .before .is-saved .ensures,
-        c .before .if1 .left,
-      ),
-    )))
+    (λ c. (rw (← c .before .before .before .before .before .before .is-router .ensures, c .before .before .before .before .before .if1 .taken, ← c .before .before .before .before .loaded .ensures, ← c .before .before .before .wide .ensures, ← c .before .before .read-row .ensures), rw (← c .before .before .before .before .before .before .is-router .ensures, c .before .before .before .before .before .if1 .taken, ← c .before .before .before .before .loaded .ensures, ← c .before .before .before .wide .ensures, ← c .before .before .read-row .ensures)))
+    (λ c. (rw (← c .before .before .is-router .ensures, c .before .if1 .left), rw (← c .before .before .is-router .ensures, c .before .if1 .left))))

@@ -16,29 +16,5 @@ neftolek-router-write-row-spec =
     (λ c κs. search needs)
     (λ c κs. search needs)
     (λ c. search needs)
-    (λ c. (
-      rw (
-        ← c .before .before .before .before .before .loaded .ensures,
-        ← c .before .before .before .before .is-saved .ensures,
-        c .before .before .before .if1 .taken,
-        ← c .before .wide .ensures,
-      ) (c .write-row .ensures .0),
-      rw (
-        ← c .before .before .before .before .before .loaded .ensures,
-        ← c .before .before .before .before .is-saved .ensures,
-        c .before .before .before .if1 .taken,
-        ← c .before .wide .ensures,
-      ) (c .write-row .ensures .1),
-    ))
-    (λ c. (
-      rw (
-        ← c .before .before .loaded .ensures,
-        ← c .before .is-saved .ensures,
-        c .if1 .left,
-      ),
-      rw (
-        ← c .before .before .loaded .ensures,
-        ← c .before .is-saved .ensures,
-        c .if1 .left,
-      ),
-    )))
+    (λ c. (rw (← c .before .before .before .before .before .is-router .ensures, c .before .before .before .before .if1 .taken, ← c .before .before .before .loaded .ensures, ← c .before .wide .ensures) (c .write-row .ensures .0), rw (← c .before .before .before .before .before .is-router .ensures, c .before .before .before .before .if1 .taken, ← c .before .before .before .loaded .ensures, ← c .before .wide .ensures) (c .write-row .ensures .1)))
+    (λ c. (rw (← c .before .is-router .ensures, c .if1 .left), rw (← c .before .is-router .ensures, c .if1 .left))))
