@@ -6,6 +6,7 @@ use denote.Ref.{now}
 use Rattle.promises.specs.OneAnswer.{OneResult, OnePlaces}
 use Rattle.words.specs.Words.{Left}
 use Rattle.link_words.specs.LinkCalls.{LinkLeft, ReceiveLeft}
+use Rattle.router_words.specs.HeldCalls.{HeldLeft}
 use Rattle.router_words.specs.RouterCalls.{RouterLeft}
 use Rattle.console.proofs.character_calls.neftolek_decoder_fresh.Kinds as decoder-fresh-kinds
 use Rattle.console.proofs.character_calls.neftolek_decoder_fresh.Reads as decoder-fresh-reads
@@ -39,6 +40,8 @@ use Rattle.console.proofs.link_calls.neftolek_link_take.Kinds as link-take-kind
 use Rattle.console.proofs.link_calls.neftolek_link_take.Reads as link-take-reads
 use Rattle.console.proofs.link_calls.neftolek_link_offer.Kinds as link-offer-kinds
 use Rattle.console.proofs.link_calls.neftolek_link_offer.Reads as link-offer-reads
+use Rattle.console.proofs.held_calls.neftolek_router_still_held.Kinds as router-still-held-kinds
+use Rattle.console.proofs.held_calls.neftolek_router_still_held.Reads as router-still-held-reads
 use Rattle.console.proofs.router_calls.neftolek_router_fresh.Kinds as router-fresh-kinds
 use Rattle.console.proofs.router_calls.neftolek_router_fresh.Reads as router-fresh-reads
 use Rattle.console.proofs.router_calls.neftolek_table_fresh.Kinds as table-fresh-kinds
@@ -292,3 +295,10 @@ router-read-row κs a x y s t p q = p .0 ∙ sym (q .0)
 pub router-read-row-out : OnePlaces 3 router-read-row-kinds.ps router-read-row-kinds.r router-read-row-reads.Post
     (λ κs s. now (s .1 .1 .1 .0))
 router-read-row-out κs a x y s t p q = p .1 ∙ sym (q .1)
+
+pub router-still-held : OneResult 2 router-still-held-kinds.ps router-still-held-kinds.r router-still-held-reads.Post
+router-still-held κs a x y s t p q = ap (λ (left : HeldLeft). left .refusal) (p ∙ sym q)
+
+pub router-still-held-out : OnePlaces 2 router-still-held-kinds.ps router-still-held-kinds.r router-still-held-reads.Post
+    (λ κs s. now (s .1 .1 .0))
+router-still-held-out κs a x y s t p q = ap (λ (left : HeldLeft). left .out) (p ∙ sym q)

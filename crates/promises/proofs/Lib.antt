@@ -9,6 +9,8 @@ pub mod RoundsAnswers
 pub mod PortsAnswers
 pub mod TableAnswers
 pub mod WordsAnswers
+pub mod PortWordsAnswers
+pub mod RouterWordsAnswers
 pub mod ConsoleAnswers
 pub mod ExactlyProofs
 pub mod StarredProofs

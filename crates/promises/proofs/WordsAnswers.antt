@@ -1,5 +1,4 @@
--- `words`, `character_words`, `link_words`, `router_words`: each promise is an
--- equation with a definition, so two answers that it allows are one.
+-- `words`, `character_words`, `link_words`: each promise is an equation with a definition, so two answers that it allows are one.
 -- Assumes nothing.
 use mathlib.Core.Path.{_≡_, sym, ap, _∙_}
 use denote.Ref.{now}
@@ -58,12 +57,6 @@ use Rattle.link_words.proofs.calls.controls_of.Kinds as link-calls-controls-of-
 use Rattle.link_words.proofs.calls.controls_of.Reads as link-calls-controls-of-reads
 use Rattle.link_words.proofs.calls.fault.Kinds as link-calls-fault-kinds
 use Rattle.link_words.proofs.calls.fault.Reads as link-calls-fault-reads
-use Rattle.router_words.proofs.saved.Kinds as router-saved-kinds
-use Rattle.router_words.proofs.saved.Reads as router-saved-reads
-use Rattle.router_words.proofs.loaded.Kinds as router-loaded-kinds
-use Rattle.router_words.proofs.loaded.Reads as router-loaded-reads
-use Rattle.router_words.proofs.is_saved.Kinds as router-is-saved-kinds
-use Rattle.router_words.proofs.is_saved.Reads as router-is-saved-reads
 
 pub truth : OneResult 0 truth-kinds.ps truth-kinds.r truth-reads.Post
 truth κs a x y s t p q = p ∙ sym q
@@ -146,12 +139,3 @@ link-calls-fault κs a x y s t p q = ap (λ (left : Outcome Answer). left .answe
 pub link-calls-fault-places : OnePlaces 2 link-calls-fault-kinds.ps link-calls-fault-kinds.r link-calls-fault-reads.Post
     (λ κs s. now (s .1 .0))
 link-calls-fault-places κs a x y s t p q = ap (λ (left : Outcome Answer). left .rx) (p ∙ sym q)
-
-pub router-saved : OneResult 0 router-saved-kinds.ps router-saved-kinds.r router-saved-reads.Post
-router-saved κs a x y s t p q = p ∙ sym q
-
-pub router-loaded : OneResult 1 router-loaded-kinds.ps router-loaded-kinds.r router-loaded-reads.Post
-router-loaded κs a x y s t p q = p ∙ sym q
-
-pub router-is-saved : OneResult 1 router-is-saved-kinds.ps router-is-saved-kinds.r router-is-saved-reads.Post
-router-is-saved κs a x y s t p q = p ∙ sym q
