@@ -80,7 +80,8 @@ fn stop(r: Report) -> Step
     }
 }
 
-fn shift(places: u8, b: bool) -> u8
+// Eight places with a new bit at the top.
+pub fn shift(places: u8, b: bool) -> u8
     ensures { λ r. ⌜ r ≡ shifted places b ⌝ }
 {
     let new = bits::bit_number(b);

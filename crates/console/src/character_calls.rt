@@ -5,6 +5,7 @@ ghost use Rattle.characters.specs.declared.decoder.Decoder.{Decoder};
 ghost use Rattle.character_words.specs.DecoderWords.{decoderWords, bitLeft, tickLeft};
 ghost use Rattle.character_words.specs.EncoderWords.{encoderWords, encodeLeft};
 use character_words::decoder;
+use character_words::decoder_bit;
 use character_words::encoder;
 
 #[no_mangle]
@@ -19,18 +20,7 @@ pub extern "C" fn neftolek_decoder_fresh(state: &mut [u32; 7])
 pub extern "C" fn neftolek_decoder_bit(state: &mut [u32; 7], bit: u32, out: &mut [u32; 2]) -> u32
     ensures { λ r. ⌜ record { refusal = r; state = now (state .exit); out = now (out .exit) } ≡ bitLeft (now (state .entry)) bit ⌝ }
 {
-    let d = decoder::loaded(state);
-    if decoder::is_saved(state, d) {
-        let a = characters::decoder::bit(d, words::truth(bit));
-        let next = a.decoder;
-        let report = a.report;
-        *state = decoder::saved(next);
-        *out = decoder::report_words(report);
-        a.refusal as u32
-    } else {
-        *out = [0, 0];
-        1
-    }
+    decoder_bit::bit(state, bit, out)
 }
 
 #[no_mangle]
