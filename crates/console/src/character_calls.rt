@@ -60,7 +60,7 @@ pub extern "C" fn neftolek_encode(
 {
     let e = encoder::loaded(state);
     if encoder::is_saved(state, e) {
-        let a = characters::encoder::encode(e, words::token_of(kind, value));
+        let a = encoder::encode(e, kind, value);
         let next = a.encoder;
         let bits = a.bits as u32;
         let count = a.count as u32;
