@@ -2,7 +2,7 @@
 ghost use mathlib.Core.Path.{_≡_};
 ghost use mathlib.Core.Bool.{true, false};
 ghost use Rattle.characters.specs.Calls.{decodeAccepted};
-ghost use Rattle.characters.specs.Decoder.{bodyOdd, closes, bodyOf, hunts, goesOn, flagged, dataBit, secondBit, bitStep};
+ghost use Rattle.characters.specs.Decoder.{bodyOdd, closes, bodyOf, shifted, hunts, goesOn, flagged, dataBit, secondBit, bitStep};
 ghost use Rattle.characters.specs.Wire.{goodParity};
 ghost use Rattle.characters.specs.declared.decoder.Phase.{Phase};
 ghost use Rattle.characters.specs.declared.report.Report.{Report};
@@ -11,12 +11,18 @@ ghost use Rattle.character_words.specs.DecoderWords.{waitingOf, isWaitin
 ghost use Rattle.character_words.specs.DecoderWords.{phaseWords, reportWords};
 use crate::decoder_tests;
 use characters::bits;
-use characters::decoder;
 
-fn hunt(state: &mut [u32; 7], places: u8, b: bool, out: &mut [u32; 2])
+fn shift(places: u32, b: bool) -> u32
+    ensures { λ r. ⌜ r ≡ shifted places b ⌝ }
+{
+    let new = words::truth_word(b);
+    places / 2 + 128 * new
+}
+
+fn hunt(state: &mut [u32; 7], places: u32, b: bool, out: &mut [u32; 2])
     ensures { λ r. ⌜ record { refusal = 0; state = now (state .exit); out = now (out .exit) } ≡ decoded (decodeAccepted (hunts places b)) ⌝ }
 {
-    let next = decoder::shift(places, b) as u32;
+    let next = shift(places, b);
     if next == 46 {
         *state = [2, 0, 0, 0, 0, 0, 0];
         *out = [1, 0];
@@ -35,10 +41,10 @@ fn parity_bit(state: &mut [u32; 7], number: u32, value: u32, b: bool, out: &mut 
     *out = [0, 0];
 }
 
-fn data_bit(state: &mut [u32; 7], escape: bool, places: u8, b: bool, out: &mut [u32; 2])
+fn data_bit(state: &mut [u32; 7], escape: bool, places: u32, b: bool, out: &mut [u32; 2])
     ensures { λ r. ⌜ record { refusal = 0; state = now (state .exit); out = now (out .exit) } ≡ decoded (decodeAccepted (dataBit escape places b)) ⌝ }
 {
-    let next = decoder::shift(places, b) as u32;
+    let next = shift(places, b);
     *out = [0, 0];
     if places % 2 == 1 {
         if escape {
@@ -154,7 +160,7 @@ fn step(state: &mut [u32; 7], b: bool, out: &mut [u32; 2])
 {
     match state[0] {
         1 => {
-            let places = words::byte(state[6]);
+            let places = words::byte(state[6]) as u32;
             hunt(state, places, b, out);
         }
         2 => {
@@ -170,7 +176,7 @@ fn step(state: &mut [u32; 7], b: bool, out: &mut [u32; 2])
         }
         4 => {
             let escape = words::truth(state[4]);
-            let places = words::byte(state[6]);
+            let places = words::byte(state[6]) as u32;
             data_bit(state, escape, places, b, out);
         }
         5 => {

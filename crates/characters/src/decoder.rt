@@ -80,8 +80,7 @@ fn stop(r: Report) -> Step
     }
 }
 
-// Eight places with a new bit at the top.
-pub fn shift(places: u8, b: bool) -> u8
+fn shift(places: u8, b: bool) -> u8
     ensures { λ r. ⌜ r ≡ shifted places b ⌝ }
 {
     let new = bits::bit_number(b);

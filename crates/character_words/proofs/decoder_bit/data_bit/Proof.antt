@@ -15,7 +15,6 @@ data-bit-spec =
     tie.close
     (tie.spec
     (λ c κs. search needs)
-    (λ c. search needs)
     (λ c κs. search needs)
     (λ c. rw (← c .before .before .before .before .shift .ensures, eq-eqb _ _ (c .before .before .if1 .taken), c .before .if2 .taken))
     (λ c. rw (← c .before .before .before .before .shift .ensures, eq-eqb _ _ (c .before .before .if1 .taken), c .before .if2 .left))

@@ -15,6 +15,5 @@ hunt-spec =
     tie.close
     (tie.spec
     (λ c κs. search needs)
-    (λ c. search needs)
     (λ c. rw (← c .before .before .before .shift .ensures, eq-eqb _ _ (c .before .before .if1 .taken)))
     (λ c. rw (← c .before .before .before .shift .ensures, ne-eqb _ _ (c .before .before .if1 .left))))
