@@ -10,7 +10,7 @@ use borrow.Author.Tests.{eq-eqb, ne-eqb, lt-ltb, le-ltb, eqb-true, ltb-true, ltb
 use Rattle.vocabulary.specs.Choice.{pick}
 use Rattle.vocabulary.specs.declared.Token.{Token}
 use Rattle.vocabulary.specs.declared.Token.the-variants.{Null, Fct, NChar, TimeCode}
-use Rattle.words.specs.Arguments.{fitted, timeCode, bare, tokenOf, FitsToken}
+use Rattle.words.specs.Arguments.{timeCode, tokenOf, FitsToken}
 use Rattle.characters.specs.Bits.{odd}
 use Rattle.characters.specs.Wire.{nCharCharacter}
 use Rattle.characters.specs.Decoder.{bodyOdd, closes, escaped}
@@ -116,12 +116,12 @@ value-odd (Whole (TimeCode t)) h = rw (lt-ltb t 256 h)
 value-odd Esc h = refl
 
 -- a value below 256 is a body of eight bits, and 0 has none that are ones
-pub waiting-odd : (n v : ℕ) → isWaiting n v ≡ true → odd ((nCharCharacter (fitted v)) .body) ≡ bodyOdd (waitingOf n v)
+pub waiting-odd : (n v : ℕ) → isWaiting n v ≡ true → odd ((nCharCharacter v) .body) ≡ bodyOdd (waitingOf n v)
 waiting-odd n v h =
-    let w = waitingOf n v in
-    let small : v < 65536 = omega (arith, value-small w (waiting-fits n v), value-own n v h) in
-    rw (lt-ltb v 65536 small)
-    (ap (λ (k : ℕ). odd ((nCharCharacter k) .body)) (sym (value-own n v h)) ∙ value-odd w (waiting-fits n v))
+    ap (λ (k : ℕ). odd ((nCharCharacter k) .body)) (sym (value-own n v h)) ∙ value-odd (waitingOf n v) (waiting-fits n v)
+
+pub waiting-small : (n v : ℕ) → isWaiting n v ≡ true → v < 65536
+waiting-small n v h = omega (arith, value-small (waitingOf n v) (waiting-fits n v), value-own n v h)
 
 pub waiting-escaped : (n v : ℕ) → escaped (waitingOf n v) ≡ eqb n 5
 unfolding waitingOf

@@ -137,7 +137,7 @@ fn good_parity(number: u32, value: u32, p: bool, flag: bool) -> bool
     requires { ⌜ isWaiting number value ≡ true ⌝ }
     ensures { λ r. ⌜ r ≡ goodParity (bodyOdd (waitingOf number value)) p flag ⌝ }
 {
-    let odd = bits::odd_n_char(words::fitted(value));
+    let odd = bits::odd_n_char(value as u16);
     bits::differ_in(odd, bits::differ_in(p, flag))
 }
 
