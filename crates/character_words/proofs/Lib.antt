@@ -1,2 +1,5 @@
+pub mod GoodLaws
+pub mod WaitingLaws
+pub mod LeftLaws
 pub mod DecoderLaws
 pub mod EncoderLaws

@@ -3,7 +3,7 @@
 -- Assumes nothing.
 use Prim.Native.Nat.{ℕ, _<_}
 use mathlib.Core.Path.{_≡_}
-use mathlib.Core.Bool.{Bool, true}
+use mathlib.Core.Bool.{Bool, true, not, _&&_}
 use mathlib.Core.List.{List, [], _∷_}
 use lib.Dec.{eqb}
 use Rattle.vocabulary.specs.Choice.{pick}
@@ -13,6 +13,7 @@ use Rattle.words.specs.Words.{Left, Stays, wordAt, truthWord, truth, byte, same
 use Rattle.words.specs.Arguments.{tokenOf, FitsToken}
 use Rattle.characters.specs.Reports.{reportKind, reportValue}
 use Rattle.characters.specs.Calls.{bitAnswer, tickAnswer}
+use Rattle.characters.specs.Refusals.{badWaiting, badDecoder}
 use Rattle.characters.specs.declared.report.Report.{Report}
 use Rattle.characters.specs.declared.decoder.Waiting.{Waiting}
 use Rattle.characters.specs.declared.decoder.Waiting.the-variants.{Reported, Whole, Esc}
@@ -69,6 +70,19 @@ decoderOf words =
 -- words that a decoder is saved as
 abbrev pub isDecoder : List ℕ → Bool
 isDecoder words = same words (decoderWords (decoderOf words))
+
+-- a number and a value that are saved for something that may wait
+abbrev pub isWaiting : ℕ → ℕ → Bool
+isWaiting n value =
+    eqb n (waitingNumber (waitingOf n value)) && (eqb value (waitingValue (waitingOf n value)) && not (badWaiting (waitingOf n value)))
+
+-- words that this decoder is saved as, its fields with values that the rules give them
+unfoldable pub isGoodAs : List ℕ → Decoder → Bool
+isGoodAs words d = same words (decoderWords d) && not (badDecoder d)
+
+-- a call answers STATE to any other words
+unfoldable pub isGood : List ℕ → Bool
+isGood words = isGoodAs words (decoderOf words)
 
 -- the two calls
 abbrev pub reportWords : Report → List ℕ

@@ -11,7 +11,7 @@ pub(crate) fn bit_number(b: bool) -> u8
     if b { 1 } else { 0 }
 }
 
-pub(crate) fn differ_in(a: bool, b: bool) -> bool
+pub fn differ_in(a: bool, b: bool) -> bool
     ensures { λ r. ⌜ r ≡ differ a b ⌝ }
 {
     if a { !b } else { b }
@@ -27,7 +27,8 @@ pub(crate) fn odd_ones(v: u8) -> bool
     one % 2 == 1
 }
 
-fn odd_n_char(n: u16) -> bool
+// Whether the ones in the body of an N-Char's character are odd in number.
+pub fn odd_n_char(n: u16) -> bool
     ensures { λ r. ⌜ r ≡ odd ((nCharCharacter n) .body) ⌝ }
 {
     if n < 256 { odd_ones(n as u8) } else { true }

@@ -1,5 +1,5 @@
 // Bits to characters and back (01, Characters on the wire).
-mod bits;
+pub mod bits;
 pub mod decoder;
 pub mod encoder;
 pub mod report;

@@ -5,6 +5,7 @@ ghost use Rattle.characters.specs.declared.decoder.Decoder.{Decoder};
 ghost use Rattle.character_words.specs.DecoderWords.{decoderWords, bitLeft, tickLeft};
 ghost use Rattle.character_words.specs.EncoderWords.{encoderWords, encodeLeft};
 use character_words::decoder;
+use character_words::decoder_bit;
 use character_words::encoder;
 
 #[no_mangle]
@@ -20,18 +21,7 @@ pub extern "C" fn neftolek_decoder_bit(state: &mut [u32; 7], bit: u32, out: &mut
     ensures { λ r. ⌜ record { refusal = r; state = now (state .exit); out = now (out .exit) }
         ≡ bitLeft (now (state .entry)) bit ⌝ }
 {
-    let d = decoder::loaded(state);
-    if decoder::is_saved(state, d) {
-        let a = characters::decoder::bit(d, words::truth(bit));
-        let next = a.decoder;
-        let report = a.report;
-        *state = decoder::saved(next);
-        *out = decoder::report_words(report);
-        a.refusal as u32
-    } else {
-        *out = [0, 0];
-        1
-    }
+    decoder_bit::bit(state, bit, out)
 }
 
 #[no_mangle]
@@ -73,7 +63,7 @@ pub extern "C" fn neftolek_encode(
 {
     let e = encoder::loaded(state);
     if encoder::is_saved(state, e) {
-        let a = characters::encoder::encode(e, words::token_of(kind, value));
+        let a = encoder::encode(e, kind, value);
         let next = a.encoder;
         let bits = a.bits as u32;
         let count = a.count as u32;

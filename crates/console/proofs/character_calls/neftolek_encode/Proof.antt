@@ -14,21 +14,9 @@ neftolek-encode-spec =
     (λ c κs. search needs)
     (λ c κs. search needs)
     (λ c κs. search needs)
-    (λ c κs. search needs)
     (λ c. search needs)
     (λ c. search needs)
     (λ c κs. search needs)
     (λ c. search needs)
-    (λ c. rw (
-      ← c .before .before .before .before .before .before .before .before .before .before .before .loaded .ensures,
-      ← c .before .before .before .before .before .before .before .before .before .is-saved .ensures,
-      c .before .before .before .before .before .before .before .before .if1 .taken,
-      ← c .before .before .before .before .before .before .before .token-of .ensures,
-      ← c .before .before .before .before .before .before .encode .ensures,
-      c .before .before .saved .ensures,
-    ))
-    (λ c. rw (
-      ← c .before .before .before .before .loaded .ensures,
-      ← c .before .before .is-saved .ensures,
-      c .before .if1 .left,
-    )))
+    (λ c. rw (← c .before .before .before .before .before .before .before .before .before .before .loaded .ensures, ← c .before .before .before .before .before .before .before .before .is-saved .ensures, c .before .before .before .before .before .before .before .if1 .taken, ← c .before .before .before .before .before .before .encode .ensures, c .before .before .saved .ensures))
+    (λ c. rw (← c .before .before .before .before .loaded .ensures, ← c .before .before .is-saved .ensures, c .before .if1 .left)))

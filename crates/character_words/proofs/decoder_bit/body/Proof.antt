@@ -1,0 +1,14 @@
+-- `character_words::decoder_bit::body` meets its contract.
+-- Assumes nothing.
+use borrow.Author.Needs.{needs}
+use mathlib.Core.Path.{refl, sym, ap, _∙_}
+use Rattle.character_words.proofs.decoder_bit.body.Statement.{statement}
+use Rattle.character_words.proofs.decoder_bit.body.Tie as tie
+
+pub body-spec : {M : Type 1} → statement M
+body-spec =
+    tie.close
+    (tie.spec
+    (λ c κs. search needs)
+    (λ c. rw (c .before .truth-word .ensures, c .if1 .taken))
+    (λ c. rw (c .before .truth-word .ensures, c .if1 .left)))

@@ -1,0 +1,21 @@
+-- `character_words::decoder_tests::good_hunting` meets its contract.
+-- Assumes nothing.
+use borrow.Author.Needs.{needs}
+use mathlib.Core.Path.{refl, sym, ap, _∙_}
+use Rattle.character_words.specs.DecoderWords.{isGood, isGoodAs, decoderOf, decoderFrom}
+use Rattle.character_words.proofs.decoder_tests.good_hunting.Statement.{statement}
+use Rattle.character_words.proofs.decoder_tests.good_hunting.Tie as tie
+
+pub good-hunting-spec : {M : Type 1} → statement M
+unfolding isGood isGoodAs decoderOf decoderFrom
+good-hunting-spec =
+    tie.close
+    (tie.spec
+    (λ c. search needs)
+    (λ c κs. search needs)
+    (λ c. search needs)
+    (λ c κs. search needs)
+    (λ c. search needs)
+    (λ c. search needs)
+    (λ c κs. search needs)
+    (λ c. rw (c .are .ensures, c .before .before .byte2 .ensures, c .before .before .before .before .byte .ensures, c .before .before .before .before .before .before .pre)))
