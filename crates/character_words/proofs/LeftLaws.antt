@@ -12,7 +12,7 @@ use Rattle.vocabulary.specs.Refusals.{STATE, STOPPED, test, firstOf}
 use Rattle.words.specs.Words.{Left, wordAt, truth, same}
 use Rattle.words.proofs.SameLaws.{same-is}
 use Rattle.characters.specs.Decoder.{bitStep}
-use Rattle.characters.specs.Refusals.{badDecoder, isStopped, decoderRefusal}
+use Rattle.characters.specs.Refusals.{badDecoder, isStopped}
 use Rattle.characters.specs.Calls.{bitAnswer, decodeAccepted, decodeRefused}
 use Rattle.characters.specs.declared.decoder.Waiting.{Waiting}
 use Rattle.characters.specs.declared.decoder.Decoder.{Decoder}

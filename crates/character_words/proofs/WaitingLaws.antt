@@ -3,14 +3,13 @@
 use Prim.Native.Nat.{ℕ, zero, suc, _<_, _≤_}
 use mathlib.Core.Path.{_≡_, refl, sym, ap, _∙_}
 use mathlib.Core.Bool.{Bool, true, false, not, _&&_, false≢true}
-use mathlib.Core.List.{List, [], _∷_}
+use mathlib.Core.List.{[], _∷_}
 use native.Mathlib.Omega.{arith}
 use lib.Dec.{eqb, ltb}
 use borrow.Author.Tests.{eq-eqb, ne-eqb, lt-ltb, le-ltb, eqb-true, ltb-true, ltb-false}
 use Rattle.vocabulary.specs.Choice.{pick}
-use Rattle.vocabulary.specs.declared.Token.{Token}
 use Rattle.vocabulary.specs.declared.Token.the-variants.{Null, Fct, NChar, TimeCode}
-use Rattle.words.specs.Arguments.{timeCode, tokenOf, FitsToken}
+use Rattle.words.specs.Arguments.{tokenOf, FitsToken}
 use Rattle.characters.specs.Bits.{odd}
 use Rattle.characters.specs.Wire.{nCharCharacter}
 use Rattle.characters.specs.Decoder.{bodyOdd, closes, escaped}

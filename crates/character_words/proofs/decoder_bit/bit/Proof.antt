@@ -1,7 +1,7 @@
 -- `character_words::decoder_bit::bit` meets its contract.
 -- Assumes nothing.
 use borrow.Author.Needs.{needs}
-use mathlib.Core.Path.{refl, sym, ap, _∙_}
+use mathlib.Core.Path.{sym, _∙_}
 use Rattle.character_words.proofs.LeftLaws.{bit-bad, bit-good, bit-stopped}
 use Rattle.character_words.specs.DecoderWords.{noDecoder}
 use Rattle.character_words.proofs.decoder_bit.bit.Statement.{statement}

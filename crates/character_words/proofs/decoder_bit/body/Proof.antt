@@ -1,7 +1,6 @@
 -- `character_words::decoder_bit::body` meets its contract.
 -- Assumes nothing.
 use borrow.Author.Needs.{needs}
-use mathlib.Core.Path.{refl, sym, ap, _∙_}
 use Rattle.character_words.proofs.decoder_bit.body.Statement.{statement}
 use Rattle.character_words.proofs.decoder_bit.body.Tie as tie
 

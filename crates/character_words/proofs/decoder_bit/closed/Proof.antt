@@ -1,7 +1,6 @@
 -- `character_words::decoder_bit::closed` meets its contract.
 -- Assumes nothing.
-use borrow.Author.Needs.{needs}
-use mathlib.Core.Path.{refl, sym, ap, _∙_}
+use mathlib.Core.Path.{sym, _∙_}
 use borrow.Author.Tests.{eq-eqb, ne-eqb}
 use Rattle.character_words.proofs.WaitingLaws.{waiting-report}
 use Rattle.character_words.proofs.decoder_bit.closed.Statement.{statement}

@@ -1,7 +1,6 @@
 -- `character_words::decoder_bit::good_parity` meets its contract.
 -- Assumes nothing.
 use borrow.Author.Needs.{needs}
-use mathlib.Core.Path.{refl, sym, ap, _∙_}
 use native.Mathlib.Omega.{arith}
 use Rattle.character_words.proofs.WaitingLaws.{waiting-odd, waiting-small}
 use Rattle.character_words.proofs.decoder_bit.good_parity.Statement.{statement}

@@ -1,7 +1,6 @@
 -- `character_words::decoder_bit::parity_bit` meets its contract.
 -- Assumes nothing.
 use borrow.Author.Needs.{needs}
-use mathlib.Core.Path.{refl, sym, ap, _∙_}
 use Rattle.character_words.specs.DecoderWords.{decoded}
 use Rattle.characters.specs.Calls.{decodeAccepted}
 use Rattle.characters.specs.Decoder.{goesOn}

@@ -1,7 +1,7 @@
 -- `character_words::decoder_bit::second_bit` meets its contract.
 -- Assumes nothing.
 use borrow.Author.Needs.{needs}
-use mathlib.Core.Path.{refl, sym, ap, _∙_}
+use mathlib.Core.Path.{sym, _∙_}
 use Rattle.character_words.proofs.decoder_bit.second_bit.Statement.{statement}
 use Rattle.character_words.proofs.decoder_bit.second_bit.Tie as tie
 

@@ -1,7 +1,7 @@
 -- `character_words::decoder_tests::are` meets its contract.
 -- Assumes nothing.
 use borrow.Author.Needs.{needs}
-use mathlib.Core.Path.{refl, sym, ap, _∙_}
+use mathlib.Core.Path.{sym}
 use Rattle.character_words.proofs.GoodLaws.{same-seven}
 use Rattle.words.proofs.SameLaws.{same-lengths}
 use Rattle.character_words.proofs.decoder_tests.are.Statement.{statement}

@@ -1,7 +1,6 @@
 -- `character_words::decoder_tests::good_between` meets its contract.
 -- Assumes nothing.
 use borrow.Author.Needs.{needs}
-use mathlib.Core.Path.{refl, sym, ap, _∙_}
 use Rattle.character_words.proofs.GoodLaws.{between-good}
 use Rattle.character_words.proofs.decoder_tests.good_between.Statement.{statement}
 use Rattle.character_words.proofs.decoder_tests.good_between.Tie as tie

@@ -1,7 +1,6 @@
 -- `character_words::decoder_tests::good_control` meets its contract.
 -- Assumes nothing.
 use borrow.Author.Needs.{needs}
-use mathlib.Core.Path.{refl, sym, ap, _∙_}
 use Rattle.character_words.specs.DecoderWords.{isGood, isGoodAs, decoderOf, decoderFrom}
 use Rattle.character_words.proofs.GoodLaws.{or-false}
 use Rattle.character_words.proofs.decoder_tests.good_control.Statement.{statement}

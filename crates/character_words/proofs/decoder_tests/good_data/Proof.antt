@@ -1,7 +1,6 @@
 -- `character_words::decoder_tests::good_data` meets its contract.
 -- Assumes nothing.
 use borrow.Author.Needs.{needs}
-use mathlib.Core.Path.{refl, sym, ap, _∙_}
 use Rattle.character_words.specs.DecoderWords.{isGood, isGoodAs, decoderOf, decoderFrom}
 use Rattle.character_words.proofs.decoder_tests.good_data.Statement.{statement}
 use Rattle.character_words.proofs.decoder_tests.good_data.Tie as tie

@@ -1,7 +1,6 @@
 -- `character_words::decoder_tests::good_parity` meets its contract.
 -- Assumes nothing.
 use borrow.Author.Needs.{needs}
-use mathlib.Core.Path.{refl, sym, ap, _∙_}
 use Rattle.character_words.proofs.GoodLaws.{parity-good}
 use Rattle.character_words.proofs.decoder_tests.good_parity.Statement.{statement}
 use Rattle.character_words.proofs.decoder_tests.good_parity.Tie as tie

@@ -1,7 +1,7 @@
 -- `character_words::decoder_tests::good_stopped` meets its contract.
 -- Assumes nothing.
 use borrow.Author.Needs.{needs}
-use mathlib.Core.Path.{refl, sym, ap, _∙_}
+use mathlib.Core.Path.{sym, _∙_}
 use Rattle.character_words.specs.DecoderWords.{isGood, isGoodAs, decoderOf, decoderFrom}
 use Rattle.character_words.proofs.GoodLaws.{and-true}
 use Rattle.character_words.proofs.decoder_tests.good_stopped.Statement.{statement}

@@ -1,7 +1,5 @@
 -- `character_words::decoder_tests::is_waiting` meets its contract.
 -- Assumes nothing.
-use borrow.Author.Needs.{needs}
-use mathlib.Core.Path.{refl, sym, ap, _∙_}
 use Rattle.character_words.proofs.WaitingLaws.{n-char-waits, time-code-waits, other-waits}
 use Rattle.character_words.proofs.decoder_tests.is_waiting.Statement.{statement}
 use Rattle.character_words.proofs.decoder_tests.is_waiting.Tie as tie

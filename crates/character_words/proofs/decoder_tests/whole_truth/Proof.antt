@@ -1,7 +1,6 @@
 -- `character_words::decoder_tests::whole_truth` meets its contract.
 -- Assumes nothing.
 use borrow.Author.Needs.{needs}
-use mathlib.Core.Path.{refl, sym, ap, _∙_}
 use Rattle.character_words.proofs.decoder_tests.whole_truth.Statement.{statement}
 use Rattle.character_words.proofs.decoder_tests.whole_truth.Tie as tie
 

@@ -1,7 +1,7 @@
 -- `character_words::encoder::encode` meets its contract.
 -- Assumes nothing.
 use borrow.Author.Needs.{needs}
-use mathlib.Core.Path.{refl, sym, ap, _∙_}
+use mathlib.Core.Path.{sym, _∙_}
 use borrow.Author.Tests.{ne-eqb}
 use Rattle.words.specs.Arguments.{tokenOf}
 use Rattle.character_words.proofs.encoder.encode.Statement.{statement}

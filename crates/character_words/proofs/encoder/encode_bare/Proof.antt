@@ -1,7 +1,7 @@
 -- `character_words::encoder::encode_bare` meets its contract.
 -- Assumes nothing.
 use borrow.Author.Needs.{needs}
-use mathlib.Core.Path.{refl, sym, ap, _∙_}
+use mathlib.Core.Path.{sym, _∙_}
 use borrow.Author.Tests.{eq-eqb, ne-eqb}
 use Rattle.character_words.proofs.encoder.encode_bare.Statement.{statement}
 use Rattle.character_words.proofs.encoder.encode_bare.Tie as tie

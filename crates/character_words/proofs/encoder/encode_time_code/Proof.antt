@@ -1,7 +1,7 @@
 -- `character_words::encoder::encode_time_code` meets its contract.
 -- Assumes nothing.
 use borrow.Author.Needs.{needs}
-use mathlib.Core.Path.{refl, sym, ap, _∙_}
+use mathlib.Core.Path.{sym, _∙_}
 use borrow.Author.Tests.{lt-ltb, le-ltb}
 use Rattle.character_words.proofs.encoder.encode_time_code.Statement.{statement}
 use Rattle.character_words.proofs.encoder.encode_time_code.Tie as tie
