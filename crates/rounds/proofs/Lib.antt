@@ -9,3 +9,4 @@ pub mod MarkedProof
 pub mod DeedLaws
 pub mod WalkLaws
 pub mod WordsProof
+pub mod CarryLaws

@@ -26,16 +26,18 @@ fn free_both(state: &mut [u32; 110], i: usize, o: usize)
     port_words::set_mode(state, i, Mode::Idle);
 }
 
+// The input's store is read first: the output's is another.
 fn carry(state: &mut [u32; 110], area: &mut [u16], i: usize, o: usize, n: u16)
-    requires { ⌜ o < 11 ⌝ }
+    requires { ⌜ (i < 11) × (o < 11) ⌝ }
     ensures { λ r. ⌜ kept (now (state .exit)) (now (area .exit)) ≡ carries inWords (kept (now (state .entry)) (now (area .entry))) i o n ⌝ }
 {
+    let st = port_words::store_at(state, i);
     port_words::append(state, area, 11 + o, n);
-    port_words::drop_front(state, area, i);
+    port_words::set_store(state, i, ports::drop_of(st, area, i));
 }
 
 fn moved(c: Totals, state: &mut [u32; 110], area: &mut [u16], i: usize, o: usize, n: u16) -> Totals
-    requires { ⌜ (o < 11) × (c .moved < 10000000) ⌝ }
+    requires { ⌜ (i < 11) × (o < 11) × (c .moved < 10000000) ⌝ }
     ensures { λ r. ⌜ tally r (kept (now (state .exit)) (now (area .exit))) ≡ moves inWords (tally c (kept (now (state .entry)) (now (area .entry)))) i o n ⌝ }
 {
     carry(state, area, i, o, n);
@@ -49,7 +51,7 @@ fn moved(c: Totals, state: &mut [u32; 110], area: &mut [u16], i: usize, o: usize
 }
 
 fn move_one(c: Totals, state: &mut [u32; 110], area: &mut [u16], i: usize, o: usize) -> Totals
-    requires { ⌜ c .moved < 10000000 ⌝ }
+    requires { ⌜ (i < 11) × (c .moved < 10000000) ⌝ }
     ensures { λ r. ⌜ tally r (kept (now (state .exit)) (now (area .exit))) ≡ movesOne inWords (tally c (kept (now (state .entry)) (now (area .entry)))) i o ⌝ }
 {
     if 11 <= o {
@@ -86,7 +88,7 @@ fn spill_one(c: Totals, state: &mut [u32; 110], area: &[u16], i: usize) -> Total
 }
 
 fn send(c: Totals, state: &mut [u32; 110], area: &mut [u16], i: usize) -> Totals
-    requires { ⌜ c .moved < 10000000 ⌝ }
+    requires { ⌜ (i < 11) × (c .moved < 10000000) ⌝ }
     ensures { λ r. ⌜ tally r (kept (now (state .exit)) (now (area .exit))) ≡ sends inWords (tally c (kept (now (state .entry)) (now (area .entry)))) i ⌝ }
 {
     let m = port_words::mode_at(state, i);
