@@ -12,6 +12,10 @@ use Rattle.characters.proofs.decoder.bit.Kinds as decoder-bit-kinds
 use Rattle.characters.proofs.decoder.bit.Reads as decoder-bit-reads
 use Rattle.characters.proofs.decoder.tick.Kinds as decoder-tick-kinds
 use Rattle.characters.proofs.decoder.tick.Reads as decoder-tick-reads
+use Rattle.characters.proofs.bits.differ_in.Kinds as differ-in-kinds
+use Rattle.characters.proofs.bits.differ_in.Reads as differ-in-reads
+use Rattle.characters.proofs.bits.odd_n_char.Kinds as odd-n-char-kinds
+use Rattle.characters.proofs.bits.odd_n_char.Reads as odd-n-char-reads
 use Rattle.characters.proofs.report.report_kind.Kinds as report-report-kind-kinds
 use Rattle.characters.proofs.report.report_kind.Reads as report-report-kind-reads
 use Rattle.characters.proofs.report.report_value.Kinds as report-report-value-kinds
@@ -38,3 +42,9 @@ report-report-kind κs a x y s t p q = p ∙ sym q
 pub report-report-value :
     OneResult 0 report-report-value-kinds.ps report-report-value-kinds.r report-report-value-reads.Post
 report-report-value κs a x y s t p q = p ∙ sym q
+
+pub differ-in : OneResult 0 differ-in-kinds.ps differ-in-kinds.r differ-in-reads.Post
+differ-in κs a x y s t p q = p ∙ sym q
+
+pub odd-n-char : OneResult 0 odd-n-char-kinds.ps odd-n-char-kinds.r odd-n-char-reads.Post
+odd-n-char κs a x y s t p q = p ∙ sym q

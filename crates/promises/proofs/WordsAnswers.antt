@@ -5,6 +5,7 @@ use denote.Ref.{now}
 use Rattle.promises.specs.OneAnswer.{OneResult, OnePlaces}
 use Rattle.link.specs.Calls.{Outcome}
 use Rattle.link.specs.declared.Answer.{Answer}
+use Rattle.words.specs.Words.{Left}
 use Rattle.words.proofs.truth.Kinds as truth-kinds
 use Rattle.words.proofs.truth.Reads as truth-reads
 use Rattle.words.proofs.truth_word.Kinds as truth-word-kinds
@@ -33,6 +34,10 @@ use Rattle.character_words.proofs.decoder.is_saved.Kinds as decoder-is-saved-ki
 use Rattle.character_words.proofs.decoder.is_saved.Reads as decoder-is-saved-reads
 use Rattle.character_words.proofs.decoder.report_words.Kinds as decoder-report-words-kinds
 use Rattle.character_words.proofs.decoder.report_words.Reads as decoder-report-words-reads
+use Rattle.character_words.proofs.decoder_bit.bit.Kinds as bit-kinds
+use Rattle.character_words.proofs.decoder_bit.bit.Reads as bit-reads
+use Rattle.character_words.proofs.encoder.encode.Kinds as encode-kinds
+use Rattle.character_words.proofs.encoder.encode.Reads as encode-reads
 use Rattle.character_words.proofs.encoder.saved.Kinds as encoder-saved-kinds
 use Rattle.character_words.proofs.encoder.saved.Reads as encoder-saved-reads
 use Rattle.character_words.proofs.encoder.loaded.Kinds as encoder-loaded-kinds
@@ -139,3 +144,15 @@ link-calls-fault κs a x y s t p q = ap (λ (left : Outcome Answer). left .answe
 pub link-calls-fault-places : OnePlaces 2 link-calls-fault-kinds.ps link-calls-fault-kinds.r link-calls-fault-reads.Post
     (λ κs s. now (s .1 .0))
 link-calls-fault-places κs a x y s t p q = ap (λ (left : Outcome Answer). left .rx) (p ∙ sym q)
+
+pub bit : OneResult 2 bit-kinds.ps bit-kinds.r bit-reads.Post
+bit κs a x y s t p q = ap (λ (left : Left). left .refusal) (p ∙ sym q)
+
+pub bit-state : OnePlaces 2 bit-kinds.ps bit-kinds.r bit-reads.Post (λ κs s. now (s .0))
+bit-state κs a x y s t p q = ap (λ (left : Left). left .state) (p ∙ sym q)
+
+pub bit-out : OnePlaces 2 bit-kinds.ps bit-kinds.r bit-reads.Post (λ κs s. now (s .1 .1 .0))
+bit-out κs a x y s t p q = ap (λ (left : Left). left .out) (p ∙ sym q)
+
+pub encode : OneResult 0 encode-kinds.ps encode-kinds.r encode-reads.Post
+encode κs a x y s t p q = p ∙ sym q
