@@ -5,18 +5,18 @@ use mathlib.Core.Path.{_≡_, sym, ap₂, _∙_}
 use mathlib.Core.List.{List}
 use native.Mathlib.Omega.{arith}
 use borrow.Author.Tests.{lt-ltb}
-use Rattle.words.specs.Words.{wordAt}
+use Rattle.words.specs.Words.{wordAt, storeWords}
 use Rattle.store.specs.Changes.{putStore}
 use Rattle.store.specs.declared.Store.{Store}
 use Rattle.ports.specs.Ports.{storeAt}
 use Rattle.ports.specs.Places.{sizeIn}
-use Rattle.port_words.specs.RouterWords.{storeWords, storeIn, routerOf, withStoreIn, withBehindIn}
+use Rattle.port_words.specs.RouterWords.{storeIn, routerOf, withStoreIn, withBehindIn}
 use Rattle.port_words.proofs.PlaceWords.{store-in}
 use Rattle.port_words.proofs.LayoutLaws.{sets-before}
 
 module _ (words : List ℕ) (i k : ℕ) (h : i < k) (l : k < 22) where
   stands : (st : Store) → storeIn (withStoreIn words k st) i ≡ storeIn words i
-  unfolding storeIn withStoreIn
+  unfolding withStoreIn
   stands st =
       rw (
         lt-ltb k 22 l,

@@ -16,5 +16,12 @@ neftolek-router-still-held-spec =
     (λ c κs. search needs)
     (λ c κs. search needs)
     (λ c. search needs)
-    (λ c. rw (← c .before .before .before .before .before .before .loaded .ensures, ← c .before .before .before .before .before .is-saved .ensures, c .before .before .before .before .if1 .taken, ← c .before .before .before .wide .ensures, ← c .before .before .still-held .ensures, ← c .before .held-words .ensures))
-    (λ c. rw (← c .before .before .before .loaded .ensures, ← c .before .before .is-saved .ensures, c .before .if1 .left)))
+    (λ c. rw (
+      ← c .before .before .before .before .before .before .is-router .ensures,
+      c .before .before .before .before .before .if1 .taken,
+      ← c .before .before .before .before .loaded .ensures,
+      ← c .before .before .before .wide .ensures,
+      ← c .before .before .still-held .ensures,
+      ← c .before .held-words .ensures,
+    ))
+    (λ c. rw (← c .before .before .is-router .ensures, c .before .if1 .left)))
