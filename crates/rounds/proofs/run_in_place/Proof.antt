@@ -1,4 +1,5 @@
--- `rounds::run_in_place` meets its contract.
+-- `rounds::run_in_place` meets its contract. The invariant: the rounds that are left, from the words and area as they are on,
+-- end as all of them do; and each that was run added at most thirty-three to a count.
 -- Assumes nothing.
 use borrow.Author.Needs.{needs}
 use mathlib.Core.Path.{_≡_, refl, sym, ap, _∙_}

@@ -1,4 +1,5 @@
--- `rounds::addresses::read_all` meets its contract.
+-- `rounds::addresses::read_all` meets its contract. The invariant: what is left of part 1, done to the words as they are, is
+-- part 1; and each input that was passed added at most one error.
 -- Assumes nothing.
 use mathlib.Core.Path.{_≡_, refl, sym, ap, _∙_}
 use Prim.Native.Nat.{_+_, _-_, _≤_}

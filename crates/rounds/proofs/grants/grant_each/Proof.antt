@@ -1,4 +1,5 @@
--- `rounds::grants::grant_each` meets its contract.
+-- `rounds::grants::grant_each` meets its contract. For the outputs: what is left of part 2, done to the words as they are, is
+-- part 2. For the candidates: the first that fits among those that are left is the first among all.
 -- Assumes nothing.
 use borrow.Author.Needs.{needs}
 use borrow.Author.Tests.{not-true, not-false}

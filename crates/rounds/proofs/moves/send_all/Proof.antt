@@ -1,4 +1,5 @@
--- `rounds::moves::send_all` meets its contract.
+-- `rounds::moves::send_all` meets its contract. The invariant: what is left of part 3, done to the words and area as they are,
+-- is part 3; and each input that was passed moved at most one N-Char.
 -- Assumes nothing.
 use mathlib.Core.Path.{_≡_, refl, sym, ap, _∙_}
 use Prim.Native.Nat.{_+_, _-_, _≤_}
