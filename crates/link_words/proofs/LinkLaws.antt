@@ -16,6 +16,7 @@ use Rattle.store.specs.Ring.{badStore}
 use Rattle.store.proofs.OrLaws.{or-left, or-right}
 use Rattle.store.specs.declared.Store.{Store}
 use Rattle.time.specs.declared.Time.{Time}
+use Rattle.link.specs.Send.{offerNumber, offerValue}
 use Rattle.link.specs.Moves.{stateNumber}
 use Rattle.link.specs.Table.{stateOf}
 use Rattle.link.specs.Refusals.{badRecord, badRxSize, badTxSize, lacksRoom, badReceive, bothRefusal}
@@ -30,7 +31,7 @@ use Rattle.link.specs.declared.Offer.{Offer}
 use Rattle.link.specs.declared.Offer.the-variants.{Absent, Code}
 use Rattle.link.specs.declared.Link.{Link}
 use Rattle.link_words.specs.LinkWords.{linkWords, linkOf, stageIn, controlsIn, creditIn, marksIn, offerOf}
-use Rattle.link_words.specs.LinkWords.{offerNumber, offerValue, timeWords, timeOf, isLink, isTime, FitsOffer, FitsStore}
+use Rattle.link_words.specs.LinkWords.{timeWords, timeOf, isLink, isTime, FitsOffer, FitsStore}
 use Rattle.link_words.specs.LinkWords.{FitsLink, KeepsLinks}
 
 stage-back : (l : Link) → l .stage .timer < 256 → stageIn (linkWords l) ≡ l .stage

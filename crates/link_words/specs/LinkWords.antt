@@ -9,6 +9,7 @@ use Rattle.vocabulary.specs.Choice.{pick}
 use Rattle.words.specs.Words.{wordAt, truthWord, truth, byte, same, storeWords, storeOf}
 use Rattle.store.specs.declared.Store.{Store}
 use Rattle.time.specs.declared.Time.{Time}
+use Rattle.link.specs.Send.{offerNumber, offerValue}
 use Rattle.link.specs.Moves.{stateNumber}
 use Rattle.link.specs.Table.{stateOf}
 use Rattle.link.specs.Refusals.{bothRefusal}
@@ -38,14 +39,6 @@ marksWords m =
     ∷ truthWord (m .put)
     ∷ truthWord (m .discarding)
     ∷ []
-
-abbrev pub offerNumber : Offer → ℕ
-offerNumber Absent = 0
-offerNumber (Code v) = 1
-
-abbrev pub offerValue : Offer → ℕ
-offerValue Absent = 0
-offerValue (Code v) = v
 
 abbrev pub offerWords : Offer → List ℕ
 offerWords o = offerNumber o ∷ offerValue o ∷ []
