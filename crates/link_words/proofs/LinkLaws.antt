@@ -9,8 +9,10 @@ use lib.Dec.{leb, ltb}
 use borrow.Author.Tests.{leb-false, ltb-false}
 use Rattle.vocabulary.specs.Refusals.{STATE, STORE, Test, test, firstOf}
 use Rattle.vocabulary.proofs.RefusalLaws.{passed, passed-later}
-use Rattle.words.specs.Words.{truth, truthWord, byte, storeWords, storeOf}
-use Rattle.words.proofs.NumberLaws.{byte-back, truth-back, store-back}
+use Rattle.words.specs.Words.{truth, truthWord, byte}
+use Rattle.store.specs.StoreWords.{storeWords, storeOf}
+use Rattle.words.proofs.NumberLaws.{byte-back, truth-back}
+use Rattle.store.proofs.StoreWordLaws.{store-back}
 use Rattle.words.proofs.SameLaws.{same-itself}
 use Rattle.store.specs.Ring.{badStore}
 use Rattle.store.proofs.OrLaws.{or-left, or-right}

@@ -6,7 +6,8 @@ use mathlib.Core.Bool.{Bool, true}
 use mathlib.Core.List.{List, [], _∷_, _++_}
 use lib.Dec.{eqb}
 use Rattle.vocabulary.specs.Choice.{pick}
-use Rattle.words.specs.Words.{wordAt, truthWord, truth, byte, same, storeWords, storeOf}
+use Rattle.words.specs.Words.{wordAt, truthWord, truth, byte, same}
+use Rattle.store.specs.StoreWords.{storeWords, storeOf}
 use Rattle.store.specs.declared.Store.{Store}
 use Rattle.time.specs.declared.Time.{Time}
 use Rattle.link.specs.Send.{offerNumber, offerValue}

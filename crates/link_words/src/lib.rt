@@ -83,8 +83,8 @@ pub fn saved(l: Link) -> [u32; 20]
     let k = credit_words(credit);
     let m = marks_words(marks);
     let o = offer_words(offer);
-    let r = words::store_words(rx);
-    let t = words::store_words(tx);
+    let r = store::store_words(rx);
+    let t = store::store_words(tx);
     [
         s[0],
         s[1],
@@ -196,8 +196,8 @@ pub fn loaded(words: &[u32; 20]) -> Link
     let credit = credit_in(words);
     let marks = marks_in(words);
     let offer = offer_of(words[14], words[15]);
-    let rx = words::store_of(words[16], words[17]);
-    let tx = words::store_of(words[18], words[19]);
+    let rx = store::store_of(words[16], words[17]);
+    let tx = store::store_of(words[18], words[19]);
     Link {
         stage,
         controls,

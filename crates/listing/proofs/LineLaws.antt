@@ -15,9 +15,9 @@ use Rattle.characters.specs.Calls.{bitAnswer}
 use Rattle.characters.specs.Reports.{reportKind}
 use Rattle.characters.specs.declared.report.Report.{Report}
 use Rattle.characters.specs.declared.report.Report.the-variants.{Nothing, Got, ParityError, EscapeError, Disconnect}
-use Rattle.stream.specs.Meaning.{Line}
-use Rattle.stream.specs.Feeding.{lineOf, fed, after}
-use Rattle.stream.proofs.FeedLaws.{fed-append, after-append}
+use Rattle.characters_stream.specs.Meaning.{Line}
+use Rattle.characters_stream.specs.Feeding.{lineOf, fed, after}
+use Rattle.characters_stream.proofs.FeedLaws.{fed-append, after-append}
 use Rattle.listing.specs.Text.{lineText, textOf}
 use Rattle.listing.specs.Writing.{moreText, progressed, Listed}
 use Rattle.listing.proofs.WritingLaws.{sets-append}

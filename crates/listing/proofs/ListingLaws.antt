@@ -7,9 +7,9 @@ use mathlib.Core.List.{List, _++_}
 use Prim.Native.Nat.{ℕ, _≤_, _<_}
 use lib.ListN.{length}
 use Rattle.characters.specs.declared.decoder.Decoder.the-variants.{Fresh}
-use Rattle.stream.specs.Meaning.{Line}
-use Rattle.stream.specs.Feeding.{fed}
-use Rattle.stream.proofs.MeaningProofs.{says-what-is-meant, means-one-thing}
+use Rattle.characters_stream.specs.Meaning.{Line}
+use Rattle.characters_stream.specs.Feeding.{fed}
+use Rattle.characters_stream.proofs.MeaningProofs.{says-what-is-meant, means-one-thing}
 use Rattle.listing.specs.Ascii.{ascii}
 use Rattle.listing.specs.Input.{good, bitsIn}
 use Rattle.listing.specs.Text.{textOf}

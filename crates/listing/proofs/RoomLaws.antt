@@ -26,7 +26,7 @@ use Rattle.characters.specs.declared.decoder.Decoder.the-variants.{Fresh, Heard
 use Rattle.characters.specs.declared.decoder.Step.{Step}
 use Rattle.characters.specs.declared.report.Report.{Report}
 use Rattle.characters.specs.declared.report.Report.the-variants.{Nothing, Got, ParityError, EscapeError, Disconnect}
-use Rattle.stream.specs.Feeding.{lineOf, fed}
+use Rattle.characters_stream.specs.Feeding.{lineOf, fed}
 use Rattle.listing.specs.Ascii.{ascii}
 use Rattle.listing.specs.Decimal.{digit, decimalIn, decimal}
 use Rattle.listing.specs.Input.{good, bitsIn}

@@ -4,7 +4,7 @@ use mathlib.Core.Path.{_≡_}
 use mathlib.Core.List.{List, _++_}
 use Prim.Native.Nat.{ℕ, _≤_, _<_}
 use lib.ListN.{length}
-use Rattle.stream.specs.Meaning.{Line, Lists}
+use Rattle.characters_stream.specs.Meaning.{Line, Lists}
 use Rattle.listing.specs.Decimal.{decimal, IsDecimal}
 use Rattle.listing.specs.Input.{good, bitsIn}
 use Rattle.listing.specs.Text.{textOf}

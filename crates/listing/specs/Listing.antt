@@ -8,7 +8,7 @@ use lib.Dec.{ltb}
 use lib.ListN.{length, take, drop}
 use Rattle.vocabulary.specs.Choice.{pick}
 use Rattle.characters.specs.declared.decoder.Decoder.the-variants.{Fresh}
-use Rattle.stream.specs.Feeding.{fed}
+use Rattle.characters_stream.specs.Feeding.{fed}
 use Rattle.listing.specs.Ascii.{ascii}
 use Rattle.listing.specs.Input.{good, bitsIn}
 use Rattle.listing.specs.Text.{valueLine, textOf}

@@ -6,7 +6,7 @@ use mathlib.Core.List.{List}
 use Prim.Native.Nat.{ℕ, _+_, _≤_}
 use lib.ListN.{length}
 use lib.Seq.{sets}
-use Rattle.stream.specs.Feeding.{fed, after}
+use Rattle.characters_stream.specs.Feeding.{fed, after}
 use Rattle.listing.specs.Text.{textOf}
 use Rattle.listing.specs.declared.Progress.{Progress}
 

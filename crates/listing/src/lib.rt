@@ -4,7 +4,7 @@ ghost use mathlib.Core.List.{[], _∷_};
 ghost use mathlib.Core.Bool.{false, true};
 ghost use Prim.Native.Nat.{_+_, _<_, _^_};
 ghost use lib.ListN.{length};
-ghost use Rattle.stream.specs.Feeding.{lineOf};
+ghost use Rattle.characters_stream.specs.Feeding.{lineOf};
 ghost use Rattle.listing.specs.Decimal.{digit, decimalIn};
 ghost use Rattle.listing.specs.Input.{bitOf, isSkipped, isGood, good, bitsIn};
 ghost use Rattle.listing.specs.Text.{valueLine, tokenText, reportText, lineText, textOf};

@@ -9,23 +9,25 @@ use lib.ListN.{length, getD}
 use lib.Seq.{ext-getD}
 use lib.Dec.{eqb, ltb, leb}
 use borrow.Author.Tests.{lt-ltb, ltb-false, leb-false}
-use Rattle.words.specs.Words.{wordAt, storeWords, storeOf}
-use Rattle.words.proofs.NumberLaws.{narrow-back, truth-back, store-back}
+use Rattle.words.specs.Words.{wordAt}
+use Rattle.store.specs.StoreWords.{storeWords, storeOf}
+use Rattle.words.proofs.NumberLaws.{narrow-back, truth-back}
+use Rattle.store.proofs.StoreWordLaws.{store-back}
 use Rattle.words.proofs.SameLaws.{same-itself}
 use Rattle.store.specs.Ring.{badStore}
 use Rattle.store.proofs.OrLaws.{or-left, or-right}
 use Rattle.store.specs.Changes.{freshStore}
 use Rattle.store.specs.declared.Store.{Store}
-use Rattle.ports.specs.Ports.{idle, noOutput, modeAt, outputAt, storeAt}
-use Rattle.ports.specs.Each.{any}
-use Rattle.ports.specs.Places.{sizeIn, badArea}
-use Rattle.ports.specs.Refusals.{badMode, badOwner, badOutput, badPort, badPorts, badStores}
-use Rattle.ports.specs.declared.Mode.{Mode}
-use Rattle.ports.specs.declared.Mode.the-variants.{Idle, Waiting, Routed, Spilling}
-use Rattle.ports.specs.declared.Owner.{Owner}
-use Rattle.ports.specs.declared.Owner.the-variants.{Free, By}
-use Rattle.ports.specs.declared.Output.{Output}
-use Rattle.ports.specs.declared.Router.{Router}
+use Rattle.router_ports.specs.Ports.{idle, noOutput, modeAt, outputAt, storeAt}
+use Rattle.router_ports.specs.Each.{any}
+use Rattle.router_ports.specs.Places.{sizeIn, badArea}
+use Rattle.router_ports.specs.Refusals.{badMode, badOwner, badOutput, badPort, badPorts, badStores}
+use Rattle.router_ports.specs.declared.Mode.{Mode}
+use Rattle.router_ports.specs.declared.Mode.the-variants.{Idle, Waiting, Routed, Spilling}
+use Rattle.router_ports.specs.declared.Owner.{Owner}
+use Rattle.router_ports.specs.declared.Owner.the-variants.{Free, By}
+use Rattle.router_ports.specs.declared.Output.{Output}
+use Rattle.router_ports.specs.declared.Router.{Router}
 use Rattle.port_words.specs.RouterWords.{listed, modeWords, outputWords, routerWord, routerWords, wantedOf}
 use Rattle.port_words.specs.RouterWords.{modeOf, ownerOf, inputIn, outputIn, storeIn, routerOf, FitsMode}
 use Rattle.port_words.specs.RouterWords.{FitsOwner, FitsRouter, isRouter, KeepsRouters}

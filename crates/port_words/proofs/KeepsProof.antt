@@ -10,13 +10,13 @@ use borrow.Author.Tests.{lt-ltb, le-ltb}
 use Rattle.words.specs.Words.{wordAt}
 use Rattle.words.proofs.NumberLaws.{truth-back}
 use Rattle.store.specs.Changes.{freshStore}
-use Rattle.ports.specs.Ports.{idle, noOutput, modeAt, outputAt, storeAt}
-use Rattle.ports.specs.declared.Mode.{Mode}
-use Rattle.ports.specs.declared.Mode.the-variants.{Idle, Waiting, Routed, Spilling}
-use Rattle.ports.specs.declared.Owner.{Owner}
-use Rattle.ports.specs.declared.Owner.the-variants.{Free, By}
-use Rattle.ports.specs.declared.Router.{Router}
-use Rattle.words.specs.Words.{storeOf}
+use Rattle.router_ports.specs.Ports.{idle, noOutput, modeAt, outputAt, storeAt}
+use Rattle.router_ports.specs.declared.Mode.{Mode}
+use Rattle.router_ports.specs.declared.Mode.the-variants.{Idle, Waiting, Routed, Spilling}
+use Rattle.router_ports.specs.declared.Owner.{Owner}
+use Rattle.router_ports.specs.declared.Owner.the-variants.{Free, By}
+use Rattle.router_ports.specs.declared.Router.{Router}
+use Rattle.store.specs.StoreWords.{storeOf}
 use Rattle.port_words.specs.RouterWords.{listed, modeWords, outputWords, routerWord, routerWords}
 use Rattle.port_words.specs.RouterWords.{wantedOf, modeOf, ownerOf, inputIn, outputIn, storeIn, routerOf}
 use Rattle.port_words.specs.RouterWords.{FitsMode, FitsOwner, FitsRouter}

@@ -12,12 +12,12 @@ use borrow.Author.Tests.{lt-ltb, le-ltb}
 use Rattle.words.specs.Words.{wordAt}
 use Rattle.store.specs.declared.Store.{Store}
 use Rattle.store.specs.Changes.{freshStore}
-use Rattle.ports.specs.Ports.{withMode, withOutput, withStore}
-use Rattle.ports.specs.declared.Mode.{Mode}
-use Rattle.ports.specs.declared.Output.{Output}
-use Rattle.ports.specs.declared.Router.{Router}
-use Rattle.ports.proofs.StateLaws.{Shape, mode-changed, output-changed}
-use Rattle.words.specs.Words.{storeWords}
+use Rattle.router_ports.specs.Ports.{withMode, withOutput, withStore}
+use Rattle.router_ports.specs.declared.Mode.{Mode}
+use Rattle.router_ports.specs.declared.Output.{Output}
+use Rattle.router_ports.specs.declared.Router.{Router}
+use Rattle.router_ports.proofs.StateLaws.{Shape, mode-changed, output-changed}
+use Rattle.store.specs.StoreWords.{storeWords}
 use Rattle.port_words.specs.RouterWords.{listed, modeWords, outputWords, routerWord, routerWords}
 use Rattle.port_words.specs.RouterWords.{withModeIn, withOutputIn, withStoreIn}
 use Rattle.port_words.proofs.ListedLaws.{length-listed, getD-listed}

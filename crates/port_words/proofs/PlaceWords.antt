@@ -13,13 +13,13 @@ use Rattle.store.specs.declared.Store.{Store}
 use borrow.Author.Tests.{lt-ltb, le-ltb}
 use Rattle.words.specs.Words.{wordAt}
 use Rattle.store.specs.Changes.{freshStore}
-use Rattle.ports.specs.Ports.{idle, noOutput, modeAt, outputAt, storeAt}
-use Rattle.ports.specs.declared.Mode.{Mode}
-use Rattle.ports.specs.declared.Mode.the-variants.{Idle, Waiting, Routed, Spilling}
-use Rattle.ports.specs.declared.Owner.{Owner}
-use Rattle.ports.specs.declared.Owner.the-variants.{Free, By}
-use Rattle.words.specs.Words.{storeWords}
-use Rattle.ports.specs.declared.Router.{Router}
+use Rattle.router_ports.specs.Ports.{idle, noOutput, modeAt, outputAt, storeAt}
+use Rattle.router_ports.specs.declared.Mode.{Mode}
+use Rattle.router_ports.specs.declared.Mode.the-variants.{Idle, Waiting, Routed, Spilling}
+use Rattle.router_ports.specs.declared.Owner.{Owner}
+use Rattle.router_ports.specs.declared.Owner.the-variants.{Free, By}
+use Rattle.store.specs.StoreWords.{storeWords}
+use Rattle.router_ports.specs.declared.Router.{Router}
 use Rattle.port_words.specs.RouterWords.{modeWords, outputWords, routerWord, routerWords, withStoreIn}
 use Rattle.port_words.specs.RouterWords.{inputIn, outputIn, storeIn, routerOf}
 use Rattle.port_words.proofs.ListedLaws.{getD-listed}

@@ -12,8 +12,8 @@ use lib.Seq.{ext-getD}
 use borrow.Author.Tests.{eq-eqb, eqb-true}
 use Rattle.words.specs.Words.{wordAt, same}
 use Rattle.words.proofs.SameLaws.{same-is, same-itself, same-lengths}
-use Rattle.ports.specs.Ports.{modeAt, outputAt, storeAt}
-use Rattle.words.specs.Words.{storeWords}
+use Rattle.router_ports.specs.Ports.{modeAt, outputAt, storeAt}
+use Rattle.store.specs.StoreWords.{storeWords}
 use Rattle.port_words.specs.RouterWords.{listed, modeWords, outputWords, routerWord, routerWords, routerOf}
 use Rattle.port_words.specs.RouterWords.{rightAt, rightMode, rightOutput, rightStore, rightPort, isRouter}
 use Rattle.port_words.proofs.ListedLaws.{length-listed}

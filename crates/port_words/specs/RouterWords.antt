@@ -9,20 +9,21 @@ use lib.ListN.{length}
 use lib.Seq.{sets}
 use lib.Dec.{eqb, ltb}
 use Rattle.vocabulary.specs.Choice.{pick}
-use Rattle.words.specs.Words.{wordAt, truthWord, truth, narrow, same, storeWords, storeOf}
+use Rattle.words.specs.Words.{wordAt, truthWord, truth, narrow, same}
+use Rattle.store.specs.StoreWords.{storeWords, storeOf}
 use Rattle.store.specs.Changes.{dropped, putStore}
 use Rattle.store.specs.declared.Store.{Store}
-use Rattle.ports.specs.Places.{sizeIn, badArea}
-use Rattle.ports.specs.Refusals.{badPorts, badStores}
-use Rattle.ports.specs.Ports.{modeAt, outputAt, storeAt}
-use Rattle.ports.specs.declared.Wanted.{Wanted}
-use Rattle.ports.specs.declared.Mode.{Mode}
-use Rattle.ports.specs.declared.Mode.the-variants.{Idle, Waiting, Routed, Spilling}
-use Rattle.ports.specs.declared.Owner.{Owner}
-use Rattle.ports.specs.declared.Owner.the-variants.{Free, By}
-use Rattle.ports.specs.declared.Input.{Input}
-use Rattle.ports.specs.declared.Output.{Output}
-use Rattle.ports.specs.declared.Router.{Router}
+use Rattle.router_ports.specs.Places.{sizeIn, badArea}
+use Rattle.router_ports.specs.Refusals.{badPorts, badStores}
+use Rattle.router_ports.specs.Ports.{modeAt, outputAt, storeAt}
+use Rattle.router_ports.specs.declared.Wanted.{Wanted}
+use Rattle.router_ports.specs.declared.Mode.{Mode}
+use Rattle.router_ports.specs.declared.Mode.the-variants.{Idle, Waiting, Routed, Spilling}
+use Rattle.router_ports.specs.declared.Owner.{Owner}
+use Rattle.router_ports.specs.declared.Owner.the-variants.{Free, By}
+use Rattle.router_ports.specs.declared.Input.{Input}
+use Rattle.router_ports.specs.declared.Output.{Output}
+use Rattle.router_ports.specs.declared.Router.{Router}
 
 -- what is said of `count` numbers from `from` on, in order
 unfoldable pub listed : {A : Type 0} → (ℕ → A) → ℕ → ℕ → List A

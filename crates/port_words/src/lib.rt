@@ -5,20 +5,21 @@ ghost use lib.Dec.{eqb};
 ghost use lib.ListN.{length};
 ghost use Prim.Native.Nat.{_<_};
 ghost use Rattle.store.specs.Ring.{empty};
-ghost use Rattle.ports.specs.Ports.{modeAt, outputAt, storeAt};
-ghost use Rattle.ports.specs.Places.{machine, fullAt, frontAt, putAt};
-ghost use Rattle.ports.specs.Refusals.{isOwner, badMode, badOwner, badOutput, badPort, badPorts, badStores};
+ghost use Rattle.router_ports.specs.Ports.{modeAt, outputAt, storeAt};
+ghost use Rattle.router_ports.specs.Places.{machine, fullAt, frontAt, putAt};
+ghost use Rattle.router_ports.specs.Refusals.{isOwner, badMode, badOwner, badOutput, badPort, badPorts, badStores};
 ghost use Rattle.port_words.specs.RouterWords.{rightMode, rightOutput, rightStore, rightPort, isRouter};
-ghost use Rattle.words.specs.Words.{wordAt, storeWords};
+ghost use Rattle.words.specs.Words.{wordAt};
+ghost use Rattle.store.specs.StoreWords.{storeWords};
 ghost use Rattle.port_words.specs.RouterWords.{listed, modeWords, outputWords, routerWord, routerWords};
 ghost use Rattle.port_words.specs.RouterWords.{withModeIn, withOutputIn, withStoreIn, withoutFrontIn, withBehindIn};
 ghost use Rattle.port_words.specs.RouterWords.{wantedOf, modeOf, ownerOf, inputIn, outputIn, storeIn, routerOf};
-use ports::Input;
-use ports::Mode;
-use ports::Output;
-use ports::Owner;
-use ports::Router;
-use ports::Wanted;
+use router_ports::Input;
+use router_ports::Mode;
+use router_ports::Output;
+use router_ports::Owner;
+use router_ports::Router;
+use router_ports::Wanted;
 use store::Store;
 
 fn mode_words(m: Mode) -> [u32; 3]
@@ -73,7 +74,7 @@ fn store_word(s: Store, i: usize) -> u32
     requires { ⌜ i < 2 ⌝ }
     ensures { λ r. ⌜ r ≡ wordAt (storeWords s) i ⌝ }
 {
-    let row = words::store_words(s);
+    let row = store::store_words(s);
     row[i]
 }
 
@@ -81,12 +82,12 @@ fn router_word(r: Router, k: usize) -> u32
     ensures { λ w. ⌜ w ≡ routerWord r k ⌝ }
 {
     if k < 33 {
-        mode_word(ports::mode_at(r, k / 3), k % 3)
+        mode_word(router_ports::mode_at(r, k / 3), k % 3)
     } else {
         if k < 66 {
-            output_word(ports::output_at(r, (k - 33) / 3), k % 3)
+            output_word(router_ports::output_at(r, (k - 33) / 3), k % 3)
         } else {
-            store_word(ports::store_at(r, (k - 66) / 2), k % 2)
+            store_word(router_ports::store_at(r, (k - 66) / 2), k % 2)
         }
     }
 }
@@ -156,7 +157,7 @@ fn store_in(words: &[u32; 110], k: usize) -> Store
     ensures { λ r. ⌜ r ≡ storeIn (now (words .entry)) k ⌝ }
 {
     let at = 2 * k;
-    words::store_of(words[at + 66], words[at + 67])
+    store::store_of(words[at + 66], words[at + 67])
 }
 
 fn inputs_in(words: &[u32; 110]) -> [Input; 11]
@@ -275,7 +276,7 @@ pub fn set_store(words: &mut [u32; 110], k: usize, st: Store)
     ensures { λ r. ⌜ now (words .exit) ≡ withStoreIn (now (words .entry)) k st ⌝ }
 {
     if k < 22 {
-        let row = words::store_words(st);
+        let row = store::store_words(st);
         let at = 2 * k + 66;
         words[at] = row[0];
         words[at + 1] = row[1];
@@ -301,20 +302,20 @@ pub fn full_at(words: &[u32; 110], area: &[u16], k: usize) -> bool
 pub fn front_at(words: &[u32; 110], area: &[u16], k: usize) -> u16
     ensures { λ r. ⌜ r ≡ frontAt (machine (routerOf (now (words .entry))) (now (area .entry))) k ⌝ }
 {
-    ports::front_of(store_at(words, k), area, k)
+    router_ports::front_of(store_at(words, k), area, k)
 }
 
 pub fn drop_front(words: &mut [u32; 110], area: &[u16], k: usize)
     ensures { λ r. ⌜ now (words .exit) ≡ withoutFrontIn (now (words .entry)) (now (area .entry)) k ⌝ }
 {
-    let next = ports::drop_of(store_at(words, k), area, k);
+    let next = router_ports::drop_of(store_at(words, k), area, k);
     set_store(words, k, next);
 }
 
 pub fn append(words: &mut [u32; 110], area: &mut [u16], k: usize, n: u16)
     ensures { λ r. ⌜ (now (words .exit) ≡ withBehindIn (now (words .entry)) (now (area .entry)) k) × (now (area .exit) ≡ putAt (now (area .entry)) k (storeAt (routerOf (now (words .entry))) k) n) ⌝ }
 {
-    let next = ports::put_of(store_at(words, k), area, k, n);
+    let next = router_ports::put_of(store_at(words, k), area, k, n);
     set_store(words, k, next);
 }
 
@@ -358,7 +359,7 @@ fn right_store(words: &[u32; 110], k: usize) -> bool
     requires { ⌜ k < 22 ⌝ }
     ensures { λ r. ⌜ r ≡ rightStore (now (words .entry)) k ⌝ }
 {
-    let row = words::store_words(store_at(words, k));
+    let row = store::store_words(store_at(words, k));
     let at = 2 * k;
     if words[at + 66] == row[0] {
         words[at + 67] == row[1]
@@ -415,7 +416,7 @@ fn owned_by(words: &[u32; 110], o: usize, i: usize) -> bool
 {
     let out = output_at(words, o);
     let owner = out.owner;
-    ports::is_owner(owner, i)
+    router_ports::is_owner(owner, i)
 }
 
 fn bad_mode(words: &[u32; 110], i: usize, m: Mode) -> bool
@@ -423,7 +424,7 @@ fn bad_mode(words: &[u32; 110], i: usize, m: Mode) -> bool
 {
     match m {
         Mode::Idle => false,
-        Mode::Waiting(w) => ports::bad_wanted(w),
+        Mode::Waiting(w) => router_ports::bad_wanted(w),
         Mode::Routed(o) => if 10 < o { true } else { !owned_by(words, o, i) },
         Mode::Spilling => false,
     }
@@ -437,7 +438,7 @@ fn bad_owner(words: &[u32; 110], o: usize, w: Owner) -> bool
         Owner::By(i) => if 10 < i {
             true
         } else {
-            !ports::is_routed(mode_at(words, i), o)
+            !router_ports::is_routed(mode_at(words, i), o)
         },
     }
 }

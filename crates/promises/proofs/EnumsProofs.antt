@@ -17,16 +17,16 @@ use Rattle.link.specs.declared.Offer.{Offer}
 use Rattle.link.specs.declared.Offer.the-variants.{Absent, Code}
 use Rattle.link.specs.declared.Sent.{Sent}
 use Rattle.link.specs.declared.Sent.the-variants.{Silence, Sends}
-use Rattle.table.specs.Headings.{headingNumber, headingValues}
-use Rattle.table.specs.declared.Direction.{Direction}
-use Rattle.table.specs.declared.Heading.{Heading}
-use Rattle.table.specs.declared.Heading.the-variants.{End, Nowhere, Ports}
-use Rattle.ports.specs.Numbers.{modeNumber, modeWanted, modeOutput, ownerNumber, ownerInput}
-use Rattle.ports.specs.declared.Wanted.{Wanted}
-use Rattle.ports.specs.declared.Mode.{Mode}
-use Rattle.ports.specs.declared.Mode.the-variants.{Idle, Waiting, Routed, Spilling}
-use Rattle.ports.specs.declared.Owner.{Owner}
-use Rattle.ports.specs.declared.Owner.the-variants.{Free, By}
+use Rattle.router_table.specs.Headings.{headingNumber, headingValues}
+use Rattle.router_table.specs.declared.Direction.{Direction}
+use Rattle.router_table.specs.declared.Heading.{Heading}
+use Rattle.router_table.specs.declared.Heading.the-variants.{End, Nowhere, Ports}
+use Rattle.router_ports.specs.Numbers.{modeNumber, modeWanted, modeOutput, ownerNumber, ownerInput}
+use Rattle.router_ports.specs.declared.Wanted.{Wanted}
+use Rattle.router_ports.specs.declared.Mode.{Mode}
+use Rattle.router_ports.specs.declared.Mode.the-variants.{Idle, Waiting, Routed, Spilling}
+use Rattle.router_ports.specs.declared.Owner.{Owner}
+use Rattle.router_ports.specs.declared.Owner.the-variants.{Free, By}
 use Rattle.promises.specs.Enums.{SaysAll, EnumsNumbered}
 
 found : {Enum Values : Type 0} (number : Enum → ℕ) (values : Enum → Values) (find : ℕ → Values → Enum) →

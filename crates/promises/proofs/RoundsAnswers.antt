@@ -3,11 +3,11 @@
 use mathlib.Core.Path.{_≡_, sym, ap, _∙_}
 use denote.Ref.{now}
 use Rattle.promises.specs.OneAnswer.{OneResult, OnePlaces}
-use Rattle.rounds.specs.Acts.{Tally}
-use Rattle.rounds.specs.InWords.{Words}
-use Rattle.rounds.specs.declared.Totals.{Totals}
-use Rattle.rounds.proofs.run_in_place.Kinds as run-kinds
-use Rattle.rounds.proofs.run_in_place.Reads as run-reads
+use Rattle.router_rounds.specs.Acts.{Tally}
+use Rattle.router_rounds.specs.InWords.{Words}
+use Rattle.router_rounds.specs.declared.Totals.{Totals}
+use Rattle.router_rounds.proofs.run_in_place.Kinds as run-kinds
+use Rattle.router_rounds.proofs.run_in_place.Reads as run-reads
 
 pub run : OneResult 3 run-kinds.ps run-kinds.r run-reads.Post
 run κs a x y s t p q =

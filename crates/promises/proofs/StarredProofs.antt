@@ -1,6 +1,6 @@
 -- Each layer proves its own cases, by computation.
 -- Assumes nothing.
-use Rattle.stream.proofs.CaseProofs.{character-cases}
+use Rattle.characters_stream.proofs.CaseProofs.{character-cases}
 use Rattle.link_laws.proofs.CaseProofs.{link-cases}
 use Rattle.router.proofs.CaseProofs.{router-cases}
 use Rattle.promises.specs.Starred.{StarredCases}

@@ -3,20 +3,20 @@
 use mathlib.Core.Path.{_≡_, sym, _∙_}
 use denote.Ref.{now}
 use Rattle.promises.specs.OneAnswer.{OneResult, OnePlaces}
-use Rattle.table.proofs.fresh.Kinds as fresh-kinds
-use Rattle.table.proofs.fresh.Reads as fresh-reads
-use Rattle.table.proofs.heading_number.Kinds as heading-number-kinds
-use Rattle.table.proofs.heading_number.Reads as heading-number-reads
-use Rattle.table.proofs.heading_values.Kinds as heading-values-kinds
-use Rattle.table.proofs.heading_values.Reads as heading-values-reads
-use Rattle.table.proofs.outside_rows.Kinds as outside-rows-kinds
-use Rattle.table.proofs.outside_rows.Reads as outside-rows-reads
-use Rattle.table.proofs.write.Kinds as write-kinds
-use Rattle.table.proofs.write.Reads as write-reads
-use Rattle.table.proofs.read.Kinds as read-kinds
-use Rattle.table.proofs.read.Reads as read-reads
-use Rattle.table.proofs.heading_of.Kinds as heading-of-kinds
-use Rattle.table.proofs.heading_of.Reads as heading-of-reads
+use Rattle.router_table.proofs.fresh.Kinds as fresh-kinds
+use Rattle.router_table.proofs.fresh.Reads as fresh-reads
+use Rattle.router_table.proofs.heading_number.Kinds as heading-number-kinds
+use Rattle.router_table.proofs.heading_number.Reads as heading-number-reads
+use Rattle.router_table.proofs.heading_values.Kinds as heading-values-kinds
+use Rattle.router_table.proofs.heading_values.Reads as heading-values-reads
+use Rattle.router_table.proofs.outside_rows.Kinds as outside-rows-kinds
+use Rattle.router_table.proofs.outside_rows.Reads as outside-rows-reads
+use Rattle.router_table.proofs.write.Kinds as write-kinds
+use Rattle.router_table.proofs.write.Reads as write-reads
+use Rattle.router_table.proofs.read.Kinds as read-kinds
+use Rattle.router_table.proofs.read.Reads as read-reads
+use Rattle.router_table.proofs.heading_of.Kinds as heading-of-kinds
+use Rattle.router_table.proofs.heading_of.Reads as heading-of-reads
 
 pub fresh : OneResult 0 fresh-kinds.ps fresh-kinds.r fresh-reads.Post
 fresh κs a x y s t p q = p ∙ sym q

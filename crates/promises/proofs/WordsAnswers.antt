@@ -20,10 +20,10 @@ use Rattle.words.proofs.fitted.Kinds as fitted-kinds
 use Rattle.words.proofs.fitted.Reads as fitted-reads
 use Rattle.words.proofs.token_of.Kinds as token-of-kinds
 use Rattle.words.proofs.token_of.Reads as token-of-reads
-use Rattle.words.proofs.store_words.Kinds as store-words-kinds
-use Rattle.words.proofs.store_words.Reads as store-words-reads
-use Rattle.words.proofs.store_of.Kinds as store-of-kinds
-use Rattle.words.proofs.store_of.Reads as store-of-reads
+use Rattle.store.proofs.store_words.Kinds as store-words-kinds
+use Rattle.store.proofs.store_words.Reads as store-words-reads
+use Rattle.store.proofs.store_of.Kinds as store-of-kinds
+use Rattle.store.proofs.store_of.Reads as store-of-reads
 use Rattle.words.proofs.same.Kinds as same-kinds
 use Rattle.words.proofs.same.Reads as same-reads
 use Rattle.character_words.proofs.decoder.saved.Kinds as decoder-saved-kinds

@@ -34,17 +34,17 @@ use Rattle.link.specs.declared.Answer.{Answer}
 use Rattle.link.specs.declared.Dispatch.{Dispatch}
 use Rattle.link.specs.declared.Receipt.{Receipt}
 use Rattle.link.specs.declared.Taken.{Taken}
-use Rattle.table.specs.Rows.{freshTable}
-use Rattle.table.specs.Headings.{toPort, addressHeading, heading}
-use Rattle.ports.specs.Each.{each, any}
-use Rattle.ports.specs.Ports.{freshRouter, modeAt, withMode, withOutput, withStore}
-use Rattle.ports.specs.Places.{withoutFront, withBehind}
-use Rattle.ports.specs.Refusals.{isRouted, badPorts, badStores}
-use Rattle.rounds.specs.Acts.{changedTo, countRound}
-use Rattle.rounds.specs.Addresses.{waits, reads, addresses, part1}
-use Rattle.rounds.specs.Grants.{cyclic, candidates, firstThat, granted, grants, part2}
-use Rattle.rounds.specs.Moves.{frees, carries, moves, movesOne, sends, part3}
-use Rattle.rounds.specs.Rounds.{begun, round, rounds}
+use Rattle.router_table.specs.Rows.{freshTable}
+use Rattle.router_table.specs.Headings.{toPort, addressHeading, heading}
+use Rattle.router_ports.specs.Each.{each, any}
+use Rattle.router_ports.specs.Ports.{freshRouter, modeAt, withMode, withOutput, withStore}
+use Rattle.router_ports.specs.Places.{withoutFront, withBehind}
+use Rattle.router_ports.specs.Refusals.{isRouted, badPorts, badStores}
+use Rattle.router_rounds.specs.Acts.{changedTo, countRound}
+use Rattle.router_rounds.specs.Addresses.{waits, reads, addresses, part1}
+use Rattle.router_rounds.specs.Grants.{cyclic, candidates, firstThat, granted, grants, part2}
+use Rattle.router_rounds.specs.Moves.{frees, carries, moves, movesOne, sends, part3}
+use Rattle.router_rounds.specs.Rounds.{begun, round, rounds}
 use Rattle.router.specs.Calls.{Put, Took, Run, puts as routerPuts, tookOne, takes as routerTakes, told, runs, readsRow}
 use Rattle.router.specs.declared.RowRead.{RowRead}
 use Rattle.router.proofs.CaseProofs.{router-cases}

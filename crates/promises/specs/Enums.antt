@@ -8,10 +8,10 @@ use Rattle.characters.specs.Reports.{reportKind, reportValue}
 use Rattle.link.specs.Moves.{stateNumber}
 use Rattle.link.specs.Send.{sentKind, sentValue, offerNumber, offerValue}
 use Rattle.link.specs.declared.LinkState.{LinkState}
-use Rattle.table.specs.Headings.{headingNumber, headingValues}
-use Rattle.ports.specs.Numbers.{modeNumber, modeWanted, modeOutput, ownerNumber, ownerInput}
-use Rattle.ports.specs.declared.Wanted.{Wanted}
-use Rattle.ports.specs.declared.Mode.{Mode}
+use Rattle.router_table.specs.Headings.{headingNumber, headingValues}
+use Rattle.router_ports.specs.Numbers.{modeNumber, modeWanted, modeOutput, ownerNumber, ownerInput}
+use Rattle.router_ports.specs.declared.Wanted.{Wanted}
+use Rattle.router_ports.specs.declared.Mode.{Mode}
 
 -- two answers with one number and the same values are one
 abbrev pub SaysAll : {Enum Values : Type 0} → (Enum → ℕ) → (Enum → Values) → Type 0

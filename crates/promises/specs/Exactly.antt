@@ -20,8 +20,8 @@ use Rattle.link.specs.Calls.{putAnswer, takeAnswer, offerAnswer}
 use Rattle.link.specs.declared.Controls.{Controls}
 use Rattle.link.specs.declared.FaultKind.{FaultKind}
 use Rattle.link.specs.declared.Link.{Link}
-use Rattle.ports.specs.Places.{Machine}
-use Rattle.ports.specs.declared.Router.{Router as RouterState}
+use Rattle.router_ports.specs.Places.{Machine}
+use Rattle.router_ports.specs.declared.Router.{Router as RouterState}
 use Rattle.router.specs.Refusals.{putTests as routerPutTests, takeTests as routerTakeTests}
 use Rattle.router.specs.Refusals.{runTests as routerRunTests, rowTests as routerRowTests, heldTests as routerHeldTests}
 use Rattle.router.specs.Calls.{puts, takes, runs, readsRow}

@@ -1,6 +1,6 @@
 -- 01, Numbers to hold it to: "Starred cases are proved about the definitions, gathered under a single statement."
 -- Assumes nothing.
-use Rattle.stream.specs.Cases.{CharacterCases}
+use Rattle.characters_stream.specs.Cases.{CharacterCases}
 use Rattle.link_laws.specs.Cases.{LinkCases}
 use Rattle.router.specs.Cases.{RouterCases}
 

@@ -31,10 +31,10 @@ use Rattle.link.specs.declared.Answer.{Answer}
 use Rattle.link.specs.declared.Dispatch.{Dispatch}
 use Rattle.link.specs.declared.Receipt.{Receipt}
 use Rattle.link.specs.declared.Taken.{Taken}
-use Rattle.table.specs.Rows.{freshTable}
-use Rattle.ports.specs.Ports.{freshRouter, outputStore, withStore}
-use Rattle.ports.specs.Places.{machine}
-use Rattle.ports.specs.declared.Router.{Router}
+use Rattle.router_table.specs.Rows.{freshTable}
+use Rattle.router_ports.specs.Ports.{freshRouter, outputStore, withStore}
+use Rattle.router_ports.specs.Places.{machine}
+use Rattle.router_ports.specs.declared.Router.{Router}
 use Rattle.router.specs.Calls.{Run, runs}
 use Rattle.router.specs.Cases.{smallest, holding}
 use Rattle.router.specs.declared.Answer.{Answer as RouterAnswer}

@@ -3,17 +3,17 @@
 use mathlib.Core.Path.{refl}
 use Rattle.store.specs.Ring.{standing}
 use Rattle.store.specs.Changes.{freshStore, putStore, putPlaces, dropped}
-use Rattle.table.specs.Rows.{freshTable, withRow}
-use Rattle.table.specs.Headings.{toPort, byRow, rowHeading, addressHeading, heading}
-use Rattle.ports.specs.Each.{each, any}
-use Rattle.ports.specs.Ports.{freshRouter, withMode, withOutput, withStore}
-use Rattle.ports.specs.Places.{withoutFront, withBehind}
-use Rattle.ports.specs.Refusals.{badPorts, badStores}
-use Rattle.rounds.specs.Acts.{changedTo, countMoved, countError, countRound}
-use Rattle.rounds.specs.Addresses.{waits, reads, addresses, part1}
-use Rattle.rounds.specs.Grants.{cyclic, candidates, firstThat, granted, grants, part2}
-use Rattle.rounds.specs.Moves.{frees, carries, moves, movesOne, spills, spillsOne, sends, part3}
-use Rattle.rounds.specs.Rounds.{begun, round, rounds}
+use Rattle.router_table.specs.Rows.{freshTable, withRow}
+use Rattle.router_table.specs.Headings.{toPort, byRow, rowHeading, addressHeading, heading}
+use Rattle.router_ports.specs.Each.{each, any}
+use Rattle.router_ports.specs.Ports.{freshRouter, withMode, withOutput, withStore}
+use Rattle.router_ports.specs.Places.{withoutFront, withBehind}
+use Rattle.router_ports.specs.Refusals.{badPorts, badStores}
+use Rattle.router_rounds.specs.Acts.{changedTo, countMoved, countError, countRound}
+use Rattle.router_rounds.specs.Addresses.{waits, reads, addresses, part1}
+use Rattle.router_rounds.specs.Grants.{cyclic, candidates, firstThat, granted, grants, part2}
+use Rattle.router_rounds.specs.Moves.{frees, carries, moves, movesOne, spills, spillsOne, sends, part3}
+use Rattle.router_rounds.specs.Rounds.{begun, round, rounds}
 use Rattle.router.specs.Calls.{puts, told, runs, writesRow}
 use Rattle.router.specs.Cases.{RouterCases}
 

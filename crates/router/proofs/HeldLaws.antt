@@ -8,7 +8,7 @@ use native.Mathlib.Nat.{pow-suc, pow-succ', pow-le-pow-right, div-div-eq-div-mul
 use native.Mathlib.Omega.{arith}
 use lib.Dec.{eqb}
 use borrow.Author.Tests.{eq-eqb, ne-eqb}
-use Rattle.ports.specs.Ports.{wants}
+use Rattle.router_ports.specs.Ports.{wants}
 use Rattle.router.specs.Held.{behind, setOf}
 
 behind-le : (set : ℕ) (member : Bool) → behind set member ≤ 1 + 2 * set

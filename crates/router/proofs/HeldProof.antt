@@ -8,13 +8,13 @@ use native.Mathlib.Omega.{arith}
 use lib.Dec.{eqb, leb}
 use borrow.Author.Tests.{eqb-true, eqb-false, leb-true}
 use Rattle.vocabulary.specs.Choice.{pick}
-use Rattle.ports.specs.Ports.{inputStore, outputStore, wants, modeAt, outputAt, storeAt}
-use Rattle.ports.specs.declared.Mode.{Mode}
-use Rattle.ports.specs.declared.Mode.the-variants.{Idle, Waiting, Routed, Spilling}
-use Rattle.ports.specs.declared.Owner.{Owner}
-use Rattle.ports.specs.declared.Owner.the-variants.{Free, By}
-use Rattle.ports.specs.declared.Router.{Router}
-use Rattle.rounds.specs.Grants.{waitsFor}
+use Rattle.router_ports.specs.Ports.{inputStore, outputStore, wants, modeAt, outputAt, storeAt}
+use Rattle.router_ports.specs.declared.Mode.{Mode}
+use Rattle.router_ports.specs.declared.Mode.the-variants.{Idle, Waiting, Routed, Spilling}
+use Rattle.router_ports.specs.declared.Owner.{Owner}
+use Rattle.router_ports.specs.declared.Owner.the-variants.{Free, By}
+use Rattle.router_ports.specs.declared.Router.{Router}
+use Rattle.router_rounds.specs.Grants.{waitsFor}
 use Rattle.router.specs.Refusals.{heldRefusal}
 use Rattle.router.specs.declared.StillHeld.{StillHeld}
 use Rattle.router.specs.Held.{awaits, unmovedAt, setOf, wantedBy, unread}

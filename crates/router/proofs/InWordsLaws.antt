@@ -8,15 +8,15 @@ use lib.Dec.{eqb, ltb}
 use lib.ListN.{length}
 use borrow.Author.Tests.{ltb-false}
 use Rattle.store.proofs.OrLaws.{or-right}
-use Rattle.ports.specs.Places.{Machine, sizeIn, badArea}
-use Rattle.ports.proofs.StateLaws.{Shape, Sound}
-use Rattle.ports.proofs.AcceptedLaws.{accepted-sound}
-use Rattle.rounds.specs.Acts.{Tally}
-use Rattle.rounds.specs.Rounds.{begun, rounds}
-use Rattle.rounds.specs.Exact.{exact}
-use Rattle.rounds.specs.InWords.{Words, loaded, inWords, savedOf, SavedRun}
-use Rattle.rounds.proofs.SoundLaws.{run-sound}
-use Rattle.rounds.proofs.WordsProof.{loads-back, runs-in-words}
+use Rattle.router_ports.specs.Places.{Machine, sizeIn, badArea}
+use Rattle.router_ports.proofs.StateLaws.{Shape, Sound}
+use Rattle.router_ports.proofs.AcceptedLaws.{accepted-sound}
+use Rattle.router_rounds.specs.Acts.{Tally}
+use Rattle.router_rounds.specs.Rounds.{begun, rounds}
+use Rattle.router_rounds.specs.Exact.{exact}
+use Rattle.router_rounds.specs.InWords.{Words, loaded, inWords, savedOf, SavedRun}
+use Rattle.router_rounds.proofs.SoundLaws.{run-sound}
+use Rattle.router_rounds.proofs.WordsProof.{loads-back, runs-in-words}
 use Rattle.router.specs.Refusals.{runRefusal}
 use Rattle.router.specs.Calls.{Run, told}
 use Rattle.router.proofs.RefusalLaws.{lent-accepts}

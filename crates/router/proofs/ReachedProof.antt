@@ -13,15 +13,15 @@ use Rattle.vocabulary.specs.Choice.{pick}
 use Rattle.store.specs.Changes.{freshStore}
 use Rattle.store.proofs.OrLaws.{or-left, or-right}
 use Rattle.store.proofs.RingLaws.{fresh-good}
-use Rattle.ports.specs.Ports.{idle, free, noOutput, freshRouter, modeAt, outputAt, storeAt, inputStore, outputStore}
-use Rattle.ports.specs.Places.{Machine, machine, sizeIn, badArea}
-use Rattle.ports.specs.declared.Mode.the-variants.{Idle}
-use Rattle.ports.proofs.StateLaws.{Shape, Sound, drop-sound, append-sound, sound-ports, sound-stores}
-use Rattle.rounds.proofs.SoundLaws.{run-sound}
-use Rattle.rounds.proofs.StillProof.{unmarked-is-still}
-use Rattle.rounds.proofs.MarkedProof.{marked-is-change}
-use Rattle.rounds.specs.Acts.{Tally, countRound}
-use Rattle.rounds.specs.Exact.{exact}
+use Rattle.router_ports.specs.Ports.{idle, free, noOutput, freshRouter, modeAt, outputAt, storeAt, inputStore, outputStore}
+use Rattle.router_ports.specs.Places.{Machine, machine, sizeIn, badArea}
+use Rattle.router_ports.specs.declared.Mode.the-variants.{Idle}
+use Rattle.router_ports.proofs.StateLaws.{Shape, Sound, drop-sound, append-sound, sound-ports, sound-stores}
+use Rattle.router_rounds.proofs.SoundLaws.{run-sound}
+use Rattle.router_rounds.proofs.StillProof.{unmarked-is-still}
+use Rattle.router_rounds.proofs.MarkedProof.{marked-is-change}
+use Rattle.router_rounds.specs.Acts.{Tally, countRound}
+use Rattle.router_rounds.specs.Exact.{exact}
 use Rattle.router.specs.Refusals.{putRefusal, takeRefusal, runRefusal}
 use Rattle.router.specs.Calls.{Put, Took, Run, puts, tookOne, takes, told, runs}
 use Rattle.router.specs.Reached.{Reached, fresh, put, take, run, NeverSpoiled, MarkIsExact}

@@ -6,9 +6,9 @@ use Prim.Native.Nat.{ℕ, suc, _<_}
 use native.Mathlib.Omega.{arith}
 use borrow.Author.Tests.{ltb-false}
 use Rattle.vocabulary.specs.Choice.{pick}
-use Rattle.ports.specs.Places.{Machine, badArea}
-use Rattle.ports.specs.Refusals.{badPorts, badStores}
-use Rattle.ports.specs.declared.Router.{Router}
+use Rattle.router_ports.specs.Places.{Machine, badArea}
+use Rattle.router_ports.specs.Refusals.{badPorts, badStores}
+use Rattle.router_ports.specs.declared.Router.{Router}
 use Rattle.router.specs.Refusals.{lentRefusal, noPort, takeRefusal, heldRefusal}
 
 pub passed : (b : Bool) (k later : ℕ) → pick b (suc k) later ≡ 0 → (b ≡ false) × (later ≡ 0)

@@ -5,13 +5,13 @@ use Prim.Native.Nat.{ℕ}
 use mathlib.Core.List.{List}
 use lib.Dec.{eqb}
 use Rattle.vocabulary.specs.Choice.{pick}
-use Rattle.table.specs.Rows.{rowAt, withRow}
-use Rattle.ports.specs.Ports.{inputStore, outputStore}
-use Rattle.ports.specs.Places.{Machine, machine, frontAt, withoutFront, withBehind}
-use Rattle.ports.specs.declared.Router.{Router}
-use Rattle.rounds.specs.Acts.{Tally}
-use Rattle.rounds.specs.Rounds.{begun, rounds}
-use Rattle.rounds.specs.Exact.{exact}
+use Rattle.router_table.specs.Rows.{rowAt, withRow}
+use Rattle.router_ports.specs.Ports.{inputStore, outputStore}
+use Rattle.router_ports.specs.Places.{Machine, machine, frontAt, withoutFront, withBehind}
+use Rattle.router_ports.specs.declared.Router.{Router}
+use Rattle.router_rounds.specs.Acts.{Tally}
+use Rattle.router_rounds.specs.Rounds.{begun, rounds}
+use Rattle.router_rounds.specs.Exact.{exact}
 use Rattle.router.specs.Refusals.{putRefusal, takeRefusal, runRefusal, rowRefusal}
 use Rattle.router.specs.declared.Answer.{Answer}
 use Rattle.router.specs.declared.Taken.{Taken}

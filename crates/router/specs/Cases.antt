@@ -7,11 +7,11 @@ use Prim.Native.Nat.{ℕ}
 use lib.ListN.{replicate}
 use Rattle.vocabulary.specs.NChars.{EOP}
 use Rattle.store.specs.Ring.{waiting}
-use Rattle.table.specs.Rows.{INVALID, freshTable, rowAt}
-use Rattle.table.specs.Headings.{addressHeading}
-use Rattle.table.specs.declared.Heading.the-variants.{Ports}
-use Rattle.ports.specs.Ports.{freshRouter, storeAt, outputStore}
-use Rattle.ports.specs.Places.{Machine, machine, placesAt}
+use Rattle.router_table.specs.Rows.{INVALID, freshTable, rowAt}
+use Rattle.router_table.specs.Headings.{addressHeading}
+use Rattle.router_table.specs.declared.Heading.the-variants.{Ports}
+use Rattle.router_ports.specs.Ports.{freshRouter, storeAt, outputStore}
+use Rattle.router_ports.specs.Places.{Machine, machine, placesAt}
 use Rattle.router.specs.Calls.{Run, puts, runs, writesRow}
 
 -- fresh, with 22 stores of nine places

@@ -5,12 +5,12 @@ use mathlib.Core.Path.{_≡_}
 use mathlib.Core.Bool.{true, false}
 use mathlib.Core.List.{List}
 use Prim.Native.Nat.{ℕ}
-use Rattle.ports.specs.Ports.{freshRouter}
-use Rattle.ports.specs.Places.{Machine, machine, badArea}
-use Rattle.ports.specs.Refusals.{badPorts, badStores}
-use Rattle.rounds.specs.Acts.{Tally}
-use Rattle.rounds.specs.Rounds.{round}
-use Rattle.rounds.specs.Exact.{exact}
+use Rattle.router_ports.specs.Ports.{freshRouter}
+use Rattle.router_ports.specs.Places.{Machine, machine, badArea}
+use Rattle.router_ports.specs.Refusals.{badPorts, badStores}
+use Rattle.router_rounds.specs.Acts.{Tally}
+use Rattle.router_rounds.specs.Rounds.{round}
+use Rattle.router_rounds.specs.Exact.{exact}
 use Rattle.router.specs.Calls.{puts, takes, runs}
 
 pub data Reached : Machine → Type 0 where

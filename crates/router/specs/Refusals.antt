@@ -8,11 +8,11 @@ use lib.Dec.{ltb}
 use Rattle.vocabulary.specs.Choice.{pick}
 use Rattle.vocabulary.specs.NChars.{aboveEEP}
 use Rattle.vocabulary.specs.Refusals.{STATE, STORE, PORT, ROW, CHAR, ROUNDS, EMPTY, FULL, Test, number, test, firstOf}
-use Rattle.table.specs.Rows.{outsideRows}
-use Rattle.ports.specs.Ports.{inputStore, outputStore}
-use Rattle.ports.specs.Places.{Machine, badArea, emptyAt, fullAt}
-use Rattle.ports.specs.Refusals.{badPorts, badStores}
-use Rattle.ports.specs.declared.Router.{Router}
+use Rattle.router_table.specs.Rows.{outsideRows}
+use Rattle.router_ports.specs.Ports.{inputStore, outputStore}
+use Rattle.router_ports.specs.Places.{Machine, badArea, emptyAt, fullAt}
+use Rattle.router_ports.specs.Refusals.{badPorts, badStores}
+use Rattle.router_ports.specs.declared.Router.{Router}
 
 -- "Tests that need a store's size come after 2."
 abbrev pub lent : Machine → List Test → List Test

@@ -2,13 +2,13 @@
 ghost use mathlib.Core.Path.{_≡_};
 ghost use mathlib.Core.Bool.{_&&_};
 ghost use Prim.Native.Nat.{_<_};
-ghost use Rattle.ports.specs.Ports.{wants, modeAt, outputAt, storeAt};
+ghost use Rattle.router_ports.specs.Ports.{wants, modeAt, outputAt, storeAt};
 ghost use Rattle.router.specs.Held.{awaits, unmovedAt, behind, setsOf, nothingAtInput, nothingAtOutput, heldThrough};
 use crate::StillHeld;
-use ports::Mode;
-use ports::Owner;
-use ports::Router;
-use ports::Wanted;
+use router_ports::Mode;
+use router_ports::Owner;
+use router_ports::Router;
+use router_ports::Wanted;
 
 // Sets of inputs, bit i for input i: those that wait for a port's output, and those that have N-Chars waiting.
 pub struct Sets {
@@ -28,7 +28,7 @@ fn is_awaited(s: Router, i: usize, port: usize) -> bool
     requires { ⌜ port < 11 ⌝ }
     ensures { λ r. ⌜ r ≡ awaits port (modeAt s i) ⌝ }
 {
-    let m = ports::mode_at(s, i);
+    let m = router_ports::mode_at(s, i);
     match m {
         Mode::Idle => false,
         Mode::Waiting(w) => is_wanted(w, port),
@@ -40,7 +40,7 @@ fn is_awaited(s: Router, i: usize, port: usize) -> bool
 fn has_unmoved(s: Router, i: usize) -> bool
     ensures { λ r. ⌜ r ≡ unmovedAt s i ⌝ }
 {
-    !ports::empty_at(s, i)
+    !router_ports::empty_at(s, i)
 }
 
 fn one_more(set: u16, member: bool) -> u16
@@ -95,14 +95,14 @@ fn nothing_at_output(owner: Owner, untaken: usize, wanted: u16) -> bool
 fn owner_of(s: Router, port: usize) -> Owner
     ensures { λ r. ⌜ r ≡ outputAt s port .owner ⌝ }
 {
-    let output = ports::output_at(s, port);
+    let output = router_ports::output_at(s, port);
     output.owner
 }
 
 fn waiting_in(s: Router, k: usize) -> usize
     ensures { λ r. ⌜ r ≡ storeAt s k .len ⌝ }
 {
-    let store = ports::store_at(s, k);
+    let store = router_ports::store_at(s, k);
     store.len
 }
 
@@ -111,7 +111,7 @@ pub(crate) fn through(s: Router, port: usize) -> StillHeld
     requires { ⌜ port < 11 ⌝ }
     ensures { λ r. ⌜ r ≡ heldThrough s port ⌝ }
 {
-    let mode = ports::mode_at(s, port);
+    let mode = router_ports::mode_at(s, port);
     let unmoved = waiting_in(s, port);
     let owner = owner_of(s, port);
     let untaken = waiting_in(s, 11 + port);

@@ -3,14 +3,14 @@
 ghost use mathlib.Core.Path.{_≡_};
 ghost use Prim.Native.Nat.{_<_};
 ghost use Rattle.store.specs.Ring.{empty};
-ghost use Rattle.ports.specs.Ports.{freshRouter, storeAt, outputStore};
-ghost use Rattle.ports.specs.Places.{machine};
+ghost use Rattle.router_ports.specs.Ports.{freshRouter, storeAt, outputStore};
+ghost use Rattle.router_ports.specs.Places.{machine};
 ghost use Rattle.router.specs.Refusals.{lentRefusal, putRefusal, takeRefusal, runRefusal, rowRefusal, heldRefusal};
 ghost use Rattle.router.specs.Calls.{putOf, puts, tookOf, tookOne, takes, ranOf, runs, writesRow, readsRow};
 ghost use Rattle.router.specs.Held.{heldRefused, stillHeld};
-use ports::Mode;
-use ports::Owner;
-use ports::Router;
+use router_ports::Mode;
+use router_ports::Owner;
+use router_ports::Router;
 
 mod held;
 
@@ -57,22 +57,22 @@ pub struct StillHeld {
 pub fn fresh() -> Router
     ensures { λ r. ⌜ r ≡ freshRouter ⌝ }
 {
-    ports::fresh()
+    router_ports::fresh()
 }
 
 // The three tests of what put, take and run are lent, then the later ones.
 fn lent_refusal(s: Router, area: &[u16], later: u8) -> u8
     ensures { λ r. ⌜ r ≡ lentRefusal (machine s (now (area .entry))) later ⌝ }
 {
-    let sized = vocabulary::refuse(ports::bad_stores(s, area), vocabulary::STATE, later);
-    let stored = vocabulary::refuse(ports::bad_area(area), vocabulary::STORE, sized);
-    vocabulary::refuse(ports::bad_ports(s), vocabulary::STATE, stored)
+    let sized = vocabulary::refuse(router_ports::bad_stores(s, area), vocabulary::STATE, later);
+    let stored = vocabulary::refuse(router_ports::bad_area(area), vocabulary::STORE, sized);
+    vocabulary::refuse(router_ports::bad_ports(s), vocabulary::STATE, stored)
 }
 
 fn put_refusal(s: Router, area: &[u16], port: usize, n: u16) -> u8
     ensures { λ r. ⌜ r ≡ putRefusal (machine s (now (area .entry))) port n ⌝ }
 {
-    let full = vocabulary::refuse(ports::full_at(s, area, port), vocabulary::FULL, 0);
+    let full = vocabulary::refuse(router_ports::full_at(s, area, port), vocabulary::FULL, 0);
     let char = vocabulary::refuse(vocabulary::above_eep(n), vocabulary::CHAR, full);
     let number = vocabulary::refuse(10 < port, vocabulary::PORT, char);
     lent_refusal(s, area, number)
@@ -84,7 +84,7 @@ pub fn put(s: Router, area: &mut [u16], port: usize, n: u16) -> Answer
 {
     let number = put_refusal(s, area, port, n);
     if number == 0 {
-        let router = ports::with_behind(s, area, port, n);
+        let router = router_ports::with_behind(s, area, port, n);
         Answer { refusal: 0, router }
     } else {
         Answer {
@@ -100,7 +100,7 @@ fn nothing_out(s: Router, port: usize) -> bool
     if 10 < port {
         true
     } else {
-        ports::empty_at(s, 11 + port)
+        router_ports::empty_at(s, 11 + port)
     }
 }
 
@@ -116,8 +116,8 @@ fn take_one(s: Router, area: &[u16], port: usize) -> Taken
     requires { ⌜ port < 11 ⌝ }
     ensures { λ r. ⌜ tookOf r (now (area .entry)) ≡ tookOne (machine s (now (area .entry))) port ⌝ }
 {
-    let taken = ports::front_at(s, area, 11 + port);
-    let router = ports::without_front(s, area, 11 + port);
+    let taken = router_ports::front_at(s, area, 11 + port);
+    let router = router_ports::without_front(s, area, 11 + port);
     Taken {
         refusal: 0,
         router,
@@ -155,7 +155,7 @@ pub fn run(s: Router, area: &mut [u16], table: &[u32; 256], limit: u16) -> Ran
     let number = run_refusal(s, area, limit);
     if number == 0 {
         let mut state = port_words::saved(s);
-        let c = rounds::run_in_place(&mut state, area, table, limit);
+        let c = router_rounds::run_in_place(&mut state, area, table, limit);
         let router = port_words::loaded(&state);
         let rounds = c.rounds;
         let moved = c.moved;
@@ -181,8 +181,8 @@ pub fn run(s: Router, area: &mut [u16], table: &[u32; 256], limit: u16) -> Ran
 fn row_refusal(s: Router, row: usize) -> u8
     ensures { λ r. ⌜ r ≡ rowRefusal s row ⌝ }
 {
-    let number = vocabulary::refuse(table::outside_rows(row), vocabulary::ROW, 0);
-    vocabulary::refuse(ports::bad_ports(s), vocabulary::STATE, number)
+    let number = vocabulary::refuse(router_table::outside_rows(row), vocabulary::ROW, 0);
+    vocabulary::refuse(router_ports::bad_ports(s), vocabulary::STATE, number)
 }
 
 // A row written: `write_row(s, &mut table, 39, 4)` has address 39 request port 2.
@@ -191,7 +191,7 @@ pub fn write_row(s: Router, table: &mut [u32; 256], row: usize, value: u32) -> u
 {
     let number = row_refusal(s, row);
     if number == 0 {
-        table::write(table, row, value);
+        router_table::write(table, row, value);
         0
     } else {
         number
@@ -203,7 +203,7 @@ pub fn read_row(s: Router, table: &[u32; 256], row: usize) -> RowRead
 {
     let number = row_refusal(s, row);
     if number == 0 {
-        let value = table::read(table, row);
+        let value = router_table::read(table, row);
         RowRead { refusal: 0, value }
     } else {
         RowRead {
@@ -217,7 +217,7 @@ fn held_refusal(s: Router, port: usize) -> u8
     ensures { λ r. ⌜ r ≡ heldRefusal s port ⌝ }
 {
     let number = vocabulary::refuse(10 < port, vocabulary::PORT, 0);
-    vocabulary::refuse(ports::bad_ports(s), vocabulary::STATE, number)
+    vocabulary::refuse(router_ports::bad_ports(s), vocabulary::STATE, number)
 }
 
 fn held_refused(number: u8) -> StillHeld

@@ -1,6 +1,6 @@
 // Runs the router's examples of document 01 and five more, and writes what each run told and what each output holds.
-use ports::Router;
 use router::Ran;
+use router_ports::Router;
 
 // One packet of three N-Chars to an input.
 fn put_three(s: Router, area: &mut [u16], port: usize, a: u16, b: u16, c: u16) -> Router {
@@ -85,14 +85,14 @@ fn run_and_show(
 
 fn routed() {
     let mut area = [0u16; 198];
-    let table = table::fresh();
+    let table = router_table::fresh();
     let s = put_three(router::fresh(), &mut area, 1, 3, 65, 256);
     run_and_show(b"routed", s, &mut area, &table, 10);
 }
 
 fn astray() {
     let mut area = [0u16; 198];
-    let table = table::fresh();
+    let table = router_table::fresh();
     let one = router::put(router::fresh(), &mut area, 1, 11);
     let two = router::put(one.router, &mut area, 1, 256);
     let s = two.router;
@@ -102,7 +102,7 @@ fn astray() {
 // Row 40 requests ports 2 and 4 and keeps the header: the lower free port first.
 fn group() {
     let mut area = [0u16; 198];
-    let mut table = table::fresh();
+    let mut table = router_table::fresh();
     let s = router::fresh();
     router::write_row(s, &mut table, 40, 0x14);
     let one = put_three(s, &mut area, 1, 40, 66, 256);
@@ -112,7 +112,7 @@ fn group() {
 
 fn itself() {
     let mut area = [0u16; 198];
-    let table = table::fresh();
+    let table = router_table::fresh();
     let s = put_three(router::fresh(), &mut area, 5, 5, 68, 257);
     run_and_show(b"to itself", s, &mut area, &table, 10);
 }
@@ -120,7 +120,7 @@ fn itself() {
 // A packet to an invalid row is spilt through its end, and the next goes on.
 fn spilt() {
     let mut area = [0u16; 198];
-    let table = table::fresh();
+    let table = router_table::fresh();
     let one = put_three(router::fresh(), &mut area, 2, 200, 1, 256);
     let two = put_three(one, &mut area, 2, 7, 69, 256);
     run_and_show(b"spilt", two, &mut area, &table, 20);
@@ -129,7 +129,7 @@ fn spilt() {
 // Input 2 waits for port 3 by row 50; that the row then requests port 4 does not change what it wants.
 fn rewritten() {
     let mut area = [0u16; 198];
-    let mut table = table::fresh();
+    let mut table = router_table::fresh();
     let s = router::fresh();
     router::write_row(s, &mut table, 50, 0x20000008);
     let one = put_three(s, &mut area, 1, 3, 70, 71);
@@ -144,7 +144,7 @@ fn rewritten() {
 // Rows 60 and 61 request port 6, at low and at high priority: inputs 1 and 2 at low, 3 and 4 at high.
 fn contention() {
     let mut area = [0u16; 198];
-    let mut table = table::fresh();
+    let mut table = router_table::fresh();
     let s = router::fresh();
     router::write_row(s, &mut table, 60, 0x20000040);
     router::write_row(s, &mut table, 61, 0x60000040);

@@ -8,16 +8,16 @@ use native.Mathlib.Omega.{arith}
 use borrow.Author.Tests.{eq-eqb, ne-eqb, ltb-false}
 use Rattle.store.specs.Changes.{putStore, dropped}
 use Rattle.words.proofs.SameLaws.{same-is}
-use Rattle.ports.specs.Ports.{storeAt}
-use Rattle.ports.specs.Places.{Machine, machine, sizeIn, frontAt, putAt, withoutFront, withBehind}
-use Rattle.ports.proofs.StateLaws.{Shape}
+use Rattle.router_ports.specs.Ports.{storeAt}
+use Rattle.router_ports.specs.Places.{Machine, machine, sizeIn, frontAt, putAt, withoutFront, withBehind}
+use Rattle.router_ports.proofs.StateLaws.{Shape}
 use Rattle.port_words.specs.RouterWords.{inputIn, outputIn, storeIn, routerWords, routerOf, isRouter}
 use Rattle.port_words.specs.RouterWords.{withStoreIn, withoutFrontIn, withBehindIn}
 use Rattle.port_words.proofs.ListedLaws.{length-listed}
 use Rattle.port_words.proofs.LayoutLaws.{store-saved}
-use Rattle.rounds.specs.Acts.{Tally}
-use Rattle.rounds.specs.Rounds.{begun, rounds}
-use Rattle.rounds.specs.InWords.{Words, kept, inWords}
+use Rattle.router_rounds.specs.Acts.{Tally}
+use Rattle.router_rounds.specs.Rounds.{begun, rounds}
+use Rattle.router_rounds.specs.InWords.{Words, kept, inWords}
 use Rattle.router.specs.Refusals.{noPort, putRefusal, takeRefusal, runRefusal}
 use Rattle.router.specs.Calls.{puts, tookOne, takes, told, runs}
 use Rattle.router.proofs.RefusalLaws.{passed, lent-accepts}

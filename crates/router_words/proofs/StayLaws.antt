@@ -9,10 +9,10 @@ use borrow.Author.Tests.{eqb-true}
 use Rattle.vocabulary.specs.Choice.{pick}
 use Rattle.words.specs.Arguments.{fitted}
 use Rattle.words.proofs.SameLaws.{same-is}
-use Rattle.ports.specs.Places.{Machine, machine}
-use Rattle.ports.specs.declared.Router.{Router}
-use Rattle.rounds.specs.Acts.{Tally}
-use Rattle.table.specs.Rows.{withRow}
+use Rattle.router_ports.specs.Places.{Machine, machine}
+use Rattle.router_ports.specs.declared.Router.{Router}
+use Rattle.router_rounds.specs.Acts.{Tally}
+use Rattle.router_table.specs.Rows.{withRow}
 use Rattle.router.specs.Refusals.{putRefusal, takeRefusal, runRefusal, rowRefusal}
 use Rattle.router.specs.Calls.{puts, tookOne, takes, told, runs, writesRow}
 use Rattle.router_words.specs.RouterCalls.{rowRefused, tableLeft}

@@ -6,7 +6,7 @@ use lib.ListN.{replicate}
 use Rattle.vocabulary.specs.Choice.{pick}
 use Rattle.vocabulary.specs.Refusals.{STATE, number}
 use Rattle.words.specs.Words.{truthWord, narrow}
-use Rattle.ports.specs.Numbers.{modeNumber, modeWanted, modeOutput, ownerNumber, ownerInput}
+use Rattle.router_ports.specs.Numbers.{modeNumber, modeWanted, modeOutput, ownerNumber, ownerInput}
 use Rattle.router.specs.Held.{stillHeld}
 use Rattle.router.specs.declared.StillHeld.{StillHeld}
 use Rattle.port_words.specs.RouterWords.{routerOf, isRouter}

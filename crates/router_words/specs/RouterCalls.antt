@@ -7,7 +7,7 @@ use mathlib.Core.List.{List, [], _∷_}
 use Rattle.vocabulary.specs.Choice.{pick}
 use Rattle.vocabulary.specs.Refusals.{STATE, number}
 use Rattle.words.specs.Arguments.{fitted}
-use Rattle.ports.specs.Places.{machine}
+use Rattle.router_ports.specs.Places.{machine}
 use Rattle.router.specs.Refusals.{rowRefusal}
 use Rattle.router.specs.Calls.{Put, Took, Run, puts, takes, runs, writesRow, readsRow}
 use Rattle.router.specs.declared.RowRead.{RowRead}

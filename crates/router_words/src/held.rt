@@ -8,14 +8,14 @@ pub fn held_words(a: StillHeld) -> [u32; 11]
 {
     let mode = a.mode;
     let owner = a.owner;
-    let wish = ports::mode_wanted(mode);
-    let number = ports::mode_number(mode) as u32;
+    let wish = router_ports::mode_wanted(mode);
+    let number = router_ports::mode_number(mode) as u32;
     let wished = wish.ports as u32;
     let high = words::truth_word(wish.high);
-    let to = words::narrow(ports::mode_output(mode));
+    let to = words::narrow(router_ports::mode_output(mode));
     let unmoved = words::narrow(a.unmoved);
-    let held = ports::owner_number(owner) as u32;
-    let by = words::narrow(ports::owner_input(owner));
+    let held = router_ports::owner_number(owner) as u32;
+    let by = words::narrow(router_ports::owner_input(owner));
     let untaken = words::narrow(a.untaken);
     let wanted = a.wanted as u32;
     let unread = a.unread as u32;

@@ -2,8 +2,8 @@
 ghost use mathlib.Core.Path.{_≡_};
 ghost use mathlib.Core.List.{[], _∷_};
 ghost use Rattle.store.specs.Ring.{empty};
-ghost use Rattle.ports.specs.Ports.{storeAt, outputStore};
-ghost use Rattle.ports.specs.Places.{machine};
+ghost use Rattle.router_ports.specs.Ports.{storeAt, outputStore};
+ghost use Rattle.router_ports.specs.Places.{machine};
 ghost use Rattle.port_words.specs.RouterWords.{routerOf};
 ghost use Rattle.router.specs.Refusals.{lentRefusal, putRefusal, takeRefusal, runRefusal};
 ghost use Rattle.router_words.specs.RouterCalls.{putLeft, takeLeft, runLeft};
@@ -43,7 +43,7 @@ fn lent_refusal(state: &[u32; 110], area: &[u16], later: u8) -> u8
         vocabulary::STATE,
         later,
     );
-    let stored = vocabulary::refuse(ports::bad_area(area), vocabulary::STORE, sized);
+    let stored = vocabulary::refuse(router_ports::bad_area(area), vocabulary::STORE, sized);
     vocabulary::refuse(port_words::bad_ports(state), vocabulary::STATE, stored)
 }
 
@@ -133,7 +133,7 @@ pub fn run(state: &mut [u32; 110], area: &mut [u16], table: &[u32; 256], limit: 
         let most = words::fitted(limit);
         let number = run_refusal(state, area, most);
         if number == 0 {
-            let c = rounds::run_in_place(state, area, table, most);
+            let c = router_rounds::run_in_place(state, area, table, most);
             let rounds = c.rounds;
             let moved = c.moved;
             let errors = c.errors;

@@ -3,3 +3,4 @@ pub mod ReadLaws
 pub mod PlaceLaws
 pub mod RingLaws
 pub mod PacketLaws
+pub mod StoreWordLaws

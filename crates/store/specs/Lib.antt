@@ -1,3 +1,4 @@
 pub mod Ring
 pub mod Packets
 pub mod Changes
+pub mod StoreWords

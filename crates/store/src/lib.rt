@@ -6,6 +6,7 @@ ghost use lib.Dec.{ltb};
 ghost use Rattle.store.specs.Ring.{around, waiting, badStore, free, empty, full};
 ghost use Rattle.store.specs.Changes.{freshStore, refusesPut, putStore, putPlaces};
 ghost use Rattle.store.specs.Changes.{frontOf, dropped, foundIn, found};
+ghost use Rattle.store.specs.StoreWords.{storeWords, storeOf};
 
 // Where the first waiting N-Char stands, and how many wait.
 pub struct Store {
@@ -23,6 +24,24 @@ pub fn fresh() -> Store
     ensures { λ r. ⌜ r ≡ freshStore ⌝ }
 {
     Store { front: 0, len: 0 }
+}
+
+// The record as the words that keep it, and the record that two words mean.
+pub fn store_words(s: Store) -> [u32; 2]
+    ensures { λ r. ⌜ r ≡ storeWords s ⌝ }
+{
+    let front = words::narrow(s.front);
+    let len = words::narrow(s.len);
+    [front, len]
+}
+
+pub fn store_of(front: u32, len: u32) -> Store
+    ensures { λ r. ⌜ r ≡ storeOf front len ⌝ }
+{
+    Store {
+        front: front as usize,
+        len: len as usize,
+    }
 }
 
 pub fn bad(s: Store, size: usize) -> bool

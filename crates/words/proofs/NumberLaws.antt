@@ -4,8 +4,7 @@ use Prim.Native.Nat.{ℕ, _^_, _<_}
 use mathlib.Core.Path.{_≡_, refl}
 use mathlib.Core.Bool.{Bool, true, false}
 use native.Mathlib.Omega.{arith}
-use Rattle.store.specs.declared.Store.{Store}
-use Rattle.words.specs.Words.{truth, truthWord, byte, narrow, storeOf}
+use Rattle.words.specs.Words.{truth, truthWord, byte, narrow}
 
 pub byte-back : (n : ℕ) → n < 256 → byte n ≡ n
 byte-back n h = omega arith
@@ -16,7 +15,3 @@ narrow-back n h = omega arith
 pub truth-back : (b : Bool) → truth (truthWord b) ≡ b
 truth-back true = refl
 truth-back false = refl
-
-pub store-back : (s : Store) → s .front < 2 ^ 32 → s .len < 2 ^ 32 → storeOf (narrow (s .front)) (narrow (s .len)) ≡ s
-unfolding storeOf
-store-back s f l = rw (narrow-back (s .front) f, narrow-back (s .len) l)

@@ -1,5 +1,5 @@
--- Numbers that a C program hands to a call. One that does not fit what the call takes is read as the largest that does,
--- or as an N-Char that is none, which the call then refuses in its own order.
+-- Numbers that are handed to a call as words. One that does not fit what the call takes is read as the largest that does, or
+-- as an N-Char that is none, which the call then refuses in its own order.
 -- Assumes nothing.
 use Prim.Native.Nat.{ℕ, _<_}
 use mathlib.Core.Path.{_≡_}

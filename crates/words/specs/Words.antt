@@ -1,5 +1,5 @@
--- A state that a C program keeps is an array of words of 32 bits, one for each field. Any words may be handed in. They are
--- a state where saving what they load gives them back.
+-- A state is an array of words of 32 bits that its caller keeps, one for each field. Any words may be handed in. They are a
+-- state where the words of what they mean are those words.
 -- Assumes nothing.
 use Prim.Native.Nat.{ℕ, _%_, _^_}
 use mathlib.Core.Path.{_≡_}
@@ -8,7 +8,6 @@ use mathlib.Core.List.{List, [], _∷_}
 use lib.ListN.{getD}
 use lib.Dec.{eqb}
 use Rattle.vocabulary.specs.Choice.{pick}
-use Rattle.store.specs.declared.Store.{Store}
 
 abbrev pub wordAt : List ℕ → ℕ → ℕ
 wordAt words k = getD words k 0
@@ -32,13 +31,6 @@ same [] [] = true
 same [] (w ∷ ws) = false
 same (v ∷ vs) [] = false
 same (v ∷ vs) (w ∷ ws) = eqb v w && same vs ws
-
--- the two words of a store's record, and the record that two words load
-abbrev pub storeWords : Store → List ℕ
-storeWords s = narrow (s .front) ∷ narrow (s .len) ∷ []
-
-unfoldable pub storeOf : ℕ → ℕ → Store
-storeOf front len = record { front = front; len = len }
 
 -- what a call on a state of words leaves: the refusal, the words, and the other answers, zero when it is refused
 pub record Left : Type 0 where

@@ -1,11 +1,10 @@
-// What crosses to C: truths, numbers and tokens as words of 32 bits.
+// Truths, numbers and tokens as words of 32 bits.
 ghost use mathlib.Core.Path.{_≡_};
 ghost use mathlib.Core.Bool.{false};
 ghost use lib.Dec.{eqb};
 ghost use Rattle.vocabulary.specs.Choice.{pick};
-ghost use Rattle.words.specs.Words.{truth, truthWord, byte, narrow, same, storeWords, storeOf};
+ghost use Rattle.words.specs.Words.{truth, truthWord, byte, narrow, same};
 ghost use Rattle.words.specs.Arguments.{fitted, noToken, bare, timeCode, tokenOf};
-use store::Store;
 use vocabulary::Token;
 
 pub fn truth(word: u32) -> bool
@@ -77,23 +76,6 @@ pub fn token_of(kind: u32, value: u32) -> Token
         3 => Token::NChar(fitted(value)),
         4 => time_code(value),
         _ => no_token(),
-    }
-}
-
-pub fn store_words(s: Store) -> [u32; 2]
-    ensures { λ r. ⌜ r ≡ storeWords s ⌝ }
-{
-    let front = narrow(s.front);
-    let len = narrow(s.len);
-    [front, len]
-}
-
-pub fn store_of(front: u32, len: u32) -> Store
-    ensures { λ r. ⌜ r ≡ storeOf front len ⌝ }
-{
-    Store {
-        front: front as usize,
-        len: len as usize,
     }
 }
 

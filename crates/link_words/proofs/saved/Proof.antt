@@ -5,7 +5,8 @@ use Rattle.link_words.specs.LinkWords.{stageWords, controlsWords, credit
 use Prim.Native.Nat.{ℕ}
 use mathlib.Core.Path.{_≡_}
 use mathlib.Core.List.{List, [], _∷_}
-use Rattle.words.specs.Words.{wordAt, storeWords}
+use Rattle.words.specs.Words.{wordAt}
+use Rattle.store.specs.StoreWords.{storeWords}
 use Rattle.link.specs.declared.Link.{Link}
 use Rattle.link_words.proofs.saved.Statement.{statement}
 use Rattle.link_words.proofs.saved.Tie as tie

@@ -5,7 +5,7 @@ use mathlib.Core.Path.{_≡_, sym, _∙_}
 use mathlib.Core.List.{List, _++_}
 use Prim.Native.Nat.{ℕ}
 use Rattle.characters.specs.declared.report.Report.{Report}
-use Rattle.stream.specs.Feeding.{lineOf}
+use Rattle.characters_stream.specs.Feeding.{lineOf}
 use Rattle.listing.specs.Ascii.{ascii}
 use Rattle.listing.specs.Decimal.{decimal}
 use Rattle.listing.specs.Text.{reportText, lineText, textOf}

@@ -1,7 +1,7 @@
 -- `listing::take_bit` meets its contract: one call of the decoder, and the line of its report.
 -- Assumes nothing.
 use borrow.Author.Needs.{needs}
-use Rattle.stream.specs.Feeding.{after}
+use Rattle.characters_stream.specs.Feeding.{after}
 use Rattle.listing.specs.Writing.{progressed}
 use Rattle.listing.proofs.LineLaws.{more-of-one}
 use Rattle.listing.proofs.take_bit.Statement.{statement}

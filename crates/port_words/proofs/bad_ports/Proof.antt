@@ -4,9 +4,9 @@ use borrow.Author.Needs.{needs}
 use mathlib.Core.Path.{_≡_, refl, sym, _∙_}
 use Prim.Native.Nat.{_-_, _≤_}
 use native.Mathlib.Omega.{arith}
-use Rattle.ports.specs.Each.{any}
-use Rattle.ports.specs.Refusals.{badPort, badPorts}
-use Rattle.ports.proofs.EachLaws.{any-next, any-done}
+use Rattle.router_ports.specs.Each.{any}
+use Rattle.router_ports.specs.Refusals.{badPort, badPorts}
+use Rattle.router_ports.proofs.EachLaws.{any-next, any-done}
 use Rattle.port_words.specs.RouterWords.{routerOf}
 use Rattle.port_words.proofs.bad_ports.Statement.{statement}
 use Rattle.port_words.proofs.bad_ports.Tie as tie

@@ -8,12 +8,12 @@ use mathlib.Core.List.{List}
 use Prim.Native.Nat.{ℕ, _-_, _≤_}
 use native.Mathlib.Omega.{arith}
 use Rattle.store.specs.Ring.{badStore}
-use Rattle.ports.specs.Each.{any}
-use Rattle.ports.specs.Ports.{storeAt}
-use Rattle.ports.specs.Places.{sizeIn}
-use Rattle.ports.specs.Refusals.{badStores}
-use Rattle.ports.specs.declared.Router.{Router}
-use Rattle.ports.proofs.EachLaws.{any-next, any-done}
+use Rattle.router_ports.specs.Each.{any}
+use Rattle.router_ports.specs.Ports.{storeAt}
+use Rattle.router_ports.specs.Places.{sizeIn}
+use Rattle.router_ports.specs.Refusals.{badStores}
+use Rattle.router_ports.specs.declared.Router.{Router}
+use Rattle.router_ports.proofs.EachLaws.{any-next, any-done}
 use Rattle.port_words.specs.RouterWords.{routerOf}
 use Rattle.port_words.proofs.bad_stores.Statement.{statement}
 use Rattle.port_words.proofs.bad_stores.Tie as tie

@@ -4,7 +4,7 @@ use borrow.Author.Needs.{needs}
 use mathlib.Core.Path.{_≡_, _∙_}
 use Prim.Native.Nat.{_-_, _≤_}
 use native.Mathlib.Omega.{arith}
-use Rattle.ports.specs.Ports.{free}
+use Rattle.router_ports.specs.Ports.{free}
 use Rattle.port_words.specs.RouterWords.{outputIn}
 use Rattle.port_words.proofs.ListedLaws.{filled, fill-starts, fill-next, fill-ends}
 use Rattle.port_words.proofs.outputs_in.Statement.{statement}

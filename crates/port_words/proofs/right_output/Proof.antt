@@ -4,7 +4,7 @@ use borrow.Author.Needs.{needs}
 use mathlib.Core.Path.{_≡_, sym, ap, _∙_}
 use borrow.Author.Tests.{eq-eqb, ne-eqb}
 use Rattle.port_words.proofs.RightLaws.{right-output}
-use Rattle.ports.specs.declared.Output.{Output}
+use Rattle.router_ports.specs.declared.Output.{Output}
 use Rattle.port_words.specs.RouterWords.{outputWords}
 use Rattle.port_words.proofs.right_output.Statement.{statement}
 use Rattle.port_words.proofs.right_output.Tie as tie

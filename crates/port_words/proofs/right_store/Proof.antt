@@ -5,7 +5,7 @@ use mathlib.Core.Path.{_≡_, sym, ap, _∙_}
 use borrow.Author.Tests.{eq-eqb, ne-eqb}
 use Rattle.port_words.proofs.RightLaws.{right-store}
 use Rattle.store.specs.declared.Store.{Store}
-use Rattle.words.specs.Words.{storeWords}
+use Rattle.store.specs.StoreWords.{storeWords}
 use Rattle.port_words.proofs.right_store.Statement.{statement}
 use Rattle.port_words.proofs.right_store.Tie as tie
 

@@ -6,10 +6,10 @@ use mathlib.Core.List.{List}
 use Prim.Native.Nat.{ℕ}
 use lib.ListN.{length-map}
 use borrow.Author.Tests.{eq-eqb, ne-eqb}
-use Rattle.ports.specs.Places.{machine}
-use Rattle.ports.proofs.StateLaws.{Shape}
-use Rattle.rounds.specs.Rounds.{begun, rounds}
-use Rattle.rounds.specs.InWords.{kept, inWords}
+use Rattle.router_ports.specs.Places.{machine}
+use Rattle.router_ports.proofs.StateLaws.{Shape}
+use Rattle.router_rounds.specs.Rounds.{begun, rounds}
+use Rattle.router_rounds.specs.InWords.{kept, inWords}
 use Rattle.router.specs.Calls.{runs}
 use Rattle.router.proofs.InWordsLaws.{toldIn, told-in-words}
 use Rattle.router.proofs.run.Statement.{statement}

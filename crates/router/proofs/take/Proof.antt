@@ -4,7 +4,7 @@ use borrow.Author.Needs.{needs}
 use mathlib.Core.Path.{sym, _∙_}
 use borrow.Author.Tests.{eq-eqb, ne-eqb}
 use Rattle.router.specs.Calls.{takes}
-use Rattle.ports.specs.Places.{machine}
+use Rattle.router_ports.specs.Places.{machine}
 use Rattle.router.proofs.RefusalLaws.{take-accepts}
 use Rattle.router.proofs.take.Statement.{statement}
 use Rattle.router.proofs.take.Tie as tie

@@ -4,7 +4,7 @@ use borrow.Author.Needs.{needs}
 use mathlib.Core.Path.{_≡_, sym, ap, _∙_}
 use Rattle.router_words.specs.RouterCalls.{putLeft, noRouter}
 use Rattle.router_words.proofs.InPlaceLaws.{put-accepts, put-in-words, put-refused}
-use Rattle.ports.specs.Places.{machine}
+use Rattle.router_ports.specs.Places.{machine}
 use Rattle.port_words.specs.RouterWords.{routerOf}
 use Rattle.router_words.proofs.put.Statement.{statement}
 use Rattle.router_words.proofs.put.Tie as tie

@@ -4,7 +4,7 @@ use borrow.Author.Needs.{needs}
 use mathlib.Core.Path.{_≡_, sym, ap, _∙_}
 use Rattle.router_words.specs.RouterCalls.{takeLeft, noRouter}
 use Rattle.router_words.proofs.InPlaceLaws.{take-in-words, take-refused}
-use Rattle.ports.specs.Places.{machine}
+use Rattle.router_ports.specs.Places.{machine}
 use Rattle.port_words.specs.RouterWords.{routerOf}
 use Rattle.router.proofs.RefusalLaws.{take-accepts}
 use Rattle.router_words.proofs.take.Statement.{statement}

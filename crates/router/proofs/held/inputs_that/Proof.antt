@@ -5,8 +5,8 @@ use mathlib.Core.Path.{_≡_, refl, sym, _∙_}
 use mathlib.Core.Bool.{Bool}
 use Prim.Native.Nat.{ℕ, _-_, _≤_, _<_}
 use native.Mathlib.Omega.{arith}
-use Rattle.ports.specs.Ports.{modeAt}
-use Rattle.ports.specs.declared.Router.{Router}
+use Rattle.router_ports.specs.Ports.{modeAt}
+use Rattle.router_ports.specs.declared.Router.{Router}
 use Rattle.router.specs.Held.{awaits, unmovedAt, setOf, wantedBy, unread, setsOf}
 use Rattle.router.proofs.HeldLaws.{set-small, set-next}
 use Rattle.router.proofs.held.inputs_that.Statement.{statement}

@@ -1,0 +1,14 @@
+-- `neftolek::link_calls/neftolek_link_fresh` meets its contract.
+-- Assumes nothing.
+use borrow.Author.Needs.{needs}
+use mathlib.Core.Path.{refl, sym, _∙_}
+use Rattle.neftolek.proofs.link_calls.neftolek_link_fresh.Statement.{statement}
+use Rattle.neftolek.proofs.link_calls.neftolek_link_fresh.Tie as tie
+
+pub neftolek-link-fresh-spec : {M : Type 1} → statement M
+neftolek-link-fresh-spec =
+    tie.close
+    (tie.spec
+    (λ c κs. search needs)
+    (λ c κs. search needs)
+    (λ c. c .saved .ensures ∙ sym (rw (← c .before .fresh .ensures))))

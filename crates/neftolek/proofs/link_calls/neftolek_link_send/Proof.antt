@@ -1,0 +1,39 @@
+-- `neftolek::link_calls/neftolek_link_send` meets its contract.
+-- Assumes nothing.
+use borrow.Author.Needs.{needs}
+use Rattle.link_words.specs.LinkCalls.{sendLeft, endOf, dispatchLeft, noLink}
+use mathlib.Core.Path.{refl, sym, _∙_}
+use Rattle.neftolek.proofs.link_calls.neftolek_link_send.Statement.{statement}
+use Rattle.neftolek.proofs.link_calls.neftolek_link_send.Tie as tie
+
+pub neftolek-link-send-spec : {M : Type 1} → statement M
+unfolding sendLeft endOf dispatchLeft noLink
+neftolek-link-send-spec =
+    tie.close
+    (tie.spec
+    (λ c κs. search needs)
+    (λ c κs. search needs)
+    (λ c κs. search needs)
+    (λ c κs. search needs)
+    (λ c κs. search needs)
+    (λ c. search needs)
+    (λ c κs. search needs)
+    (λ c. search needs)
+    (λ c κs. search needs)
+    (λ c. search needs)
+    (λ c. search needs)
+    (λ c. rw (
+      ← c .before .before .before .before .before .before .before .before .before .before .before .before .before .before .loaded .ensures,
+      ← c .before .before .before .before .before .before .before .before .before .before .before .before .is-saved .ensures,
+      c .before .before .before .before .before .before .before .before .before .before .before .if1 .taken,
+      ← c .before .before .before .before .before .before .before .before .before .send .ensures,
+      c .before .before .before .before .before .narrow .ensures,
+      c .before .before .before .before .sent-kind .ensures,
+      c .before .before .before .sent-value .ensures,
+      c .before .before .saved .ensures,
+    ))
+    (λ c. rw (
+      ← c .before .before .before .before .loaded .ensures,
+      ← c .before .before .is-saved .ensures,
+      c .before .if1 .left,
+    )))

@@ -1,0 +1,33 @@
+-- `neftolek::link_calls/neftolek_link_tick` meets its contract.
+-- Assumes nothing.
+use borrow.Author.Needs.{needs}
+use Rattle.link_words.specs.LinkCalls.{tickLeft, endOf, answerLeft, noLink}
+use mathlib.Core.Path.{refl, sym, _∙_}
+use Rattle.neftolek.proofs.link_calls.neftolek_link_tick.Statement.{statement}
+use Rattle.neftolek.proofs.link_calls.neftolek_link_tick.Tie as tie
+
+pub neftolek-link-tick-spec : {M : Type 1} → statement M
+unfolding tickLeft endOf answerLeft noLink
+neftolek-link-tick-spec =
+    tie.close
+    (tie.spec
+    (λ c κs. search needs)
+    (λ c κs. search needs)
+    (λ c κs. search needs)
+    (λ c κs. search needs)
+    (λ c κs. search needs)
+    (λ c. search needs)
+    (λ c. search needs)
+    (λ c. rw (
+      ← c .before .before .before .before .before .before .before .before .before .before .before .before .loaded .ensures,
+      ← c .before .before .before .before .before .before .before .before .before .before .is-saved .ensures,
+      c .before .before .before .before .before .before .before .before .before .if1 .taken,
+      ← c .before .before .before .before .before .before .before .tick .ensures,
+      c .before .before .before .narrow .ensures,
+      c .before .before .saved .ensures,
+    ))
+    (λ c. rw (
+      ← c .before .before .before .before .loaded .ensures,
+      ← c .before .before .is-saved .ensures,
+      c .before .if1 .left,
+    )))
