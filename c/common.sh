@@ -36,25 +36,25 @@ machine_compiler() {
 
 # Proves and builds the archive where it is not up to date. ARCHIVE names another one to take.
 build_archive() {
-    archive=${ARCHIVE:-$root/target/staticlib/libconsole.a}
+    archive=${ARCHIVE:-$root/target/staticlib/libneftolek.a}
     [ -z "${ARCHIVE:-}" ] || return 0
     if [ -f "$archive" ] &&
         [ -z "$(find "$root/crates" "$root/crates.txt" "$kit/KIT-ID" -newer "$archive" -print -quit)" ]; then
         return 0
     fi
-    echo "$name: proving and building the archive with 'rt staticlib console'; from nothing this takes some minutes" >&2
+    echo "$name: proving and building the archive with 'rt staticlib neftolek'; from nothing this takes some minutes" >&2
     mkdir -p "$build"
-    (cd "$root" && rt staticlib console) >"$build/staticlib.log" 2>&1 ||
+    (cd "$root" && rt staticlib neftolek) >"$build/staticlib.log" 2>&1 ||
         fail "the archive was not built: target/c/staticlib.log says why"
 }
 
-compile() { # SOURCE OBJECT FLAGS..
+compile() { # SOURCE OBJECT FLAGS.., the flags say how far it is optimised
     local source=$1 object=$2 compiler=("$CC")
     shift 2
     if [ "$CC" = kit ]; then
         compiler=("$tools/bin/clang" --target=x86_64-unknown-linux-gnu -nostdinc -I"$here/libc")
     fi
-    "${compiler[@]}" "$@" -O2 -Wall -Wextra -pedantic -Werror -I"$here" -I"$here/model" -I"$here/tests" \
+    "${compiler[@]}" "$@" -Wall -Wextra -pedantic -Werror -I"$here" -I"$here/model" -I"$here/tests" \
         -c "$source" -o "$object" || fail "$source does not compile"
 }
 

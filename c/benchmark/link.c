@@ -3,49 +3,45 @@
 
 #include <string.h>
 
-enum { LINK_PLACES = 1024, BURST = 56 };
+enum { LINK_PLACES = 1024, BURST = 56, BURSTS = 20 };
 
 static uint16_t rx[LINK_PLACES], tx[LINK_PLACES];
 static const struct model_places rx_places = {rx, LINK_PLACES}, tx_places = {tx, LINK_PLACES};
 
 /* In Run, credit held and given out 56, half of each store waiting. */
-static const uint32_t running[NEFTOLEK_LINK_WORDS] = {5, 0, 1, 1, 0, 1, 0, 56, 56, 1, 1, 1, 1, 0, 0, 0, 900, 512, 900, 512};
+static const uint32_t running[NEFTOLEK_LINK_WORDS] = {5, 0, 1, 1, 0, 1, 0, 56,  56,  1,   1,   1,
+                                                      1, 0, 0, 0, 900, 512, 900, 512};
 static const struct model_link model_running = {
     RUN, 0, true, true, false, true, false, 56, 56, true, true, true, true, false, false, 0, {900, 512}, {900, 512}};
 
-#define OURS(name, call)                                                                                               \
-    static unsigned name##_ours(void)                                                                                  \
+/* A side: bursts of a call, with the k-th call and what is added of its answer to `total`. */
+#define BURSTS_OF(name, state_type, first, call, answer)                                                               \
+    static unsigned name(void)                                                                                         \
     {                                                                                                                  \
-        uint32_t state[NEFTOLEK_LINK_WORDS], time[NEFTOLEK_TIME_WORDS] = {0, 0}, out[3] = {0, 0, 0};                   \
-        for (unsigned round = 0; round < 20; round++) {                                                                \
-            memcpy(state, running, sizeof state);                                                                      \
+        state_type;                                                                                                    \
+        unsigned long total = 0;                                                                                       \
+        for (unsigned burst = 0; burst < BURSTS; burst++) {                                                            \
+            memcpy(&state, &first, sizeof state);                                                                      \
             for (unsigned k = 0; k < BURST; k++) {                                                                     \
                 call;                                                                                                  \
-                sum += out[0] + out[1] + out[2];                                                                       \
+                answer;                                                                                                \
             }                                                                                                          \
         }                                                                                                              \
-        (void)time;                                                                                                    \
-        return 20 * BURST;                                                                                             \
+        sum += total;                                                                                                  \
+        return BURSTS * BURST;                                                                                         \
     }
 
-#define MODEL(name, refusal, call)                                                                                     \
-    static unsigned name##_bursts(bool tests)                                                                          \
-    {                                                                                                                  \
-        struct model_link state;                                                                                       \
-        struct model_time time = {0, false};                                                                           \
-        for (unsigned round = 0; round < 20; round++) {                                                                \
-            state = model_running;                                                                                     \
-            for (unsigned k = 0; k < BURST; k++) {                                                                     \
-                if (tests && refusal)                                                                                  \
-                    continue;                                                                                          \
-                call;                                                                                                  \
-            }                                                                                                          \
-        }                                                                                                              \
-        (void)time;                                                                                                    \
-        return 20 * BURST;                                                                                             \
-    }                                                                                                                  \
-    static unsigned name##_model(void) { return name##_bursts(false); }                                                \
-    static unsigned name##_tested(void) { return name##_bursts(true); }
+#define OURS(name, words, call, answer)                                                                                \
+    BURSTS_OF(name##_ours, uint32_t state[NEFTOLEK_LINK_WORDS]; uint32_t out[words], running,                          \
+              if (call != 0) continue, answer)
+#define TESTED(name, type, call, answer)                                                                               \
+    BURSTS_OF(name##_tested, struct model_link state; type out, model_running, if (call != 0) continue, answer)
+#define UNTESTED(name, type, call, answer)                                                                             \
+    BURSTS_OF(name##_untested, struct model_link state; type out, model_running, out = call, answer)
+
+/* A program looks at the kind first. */
+#define OF_DISPATCH total += out.discarded + (out.sent.kind == NOTHING ? 0u : out.sent.value)
+#define OF_RECEIPT total += out.discarded + (out.tick ? 1u : 0u)
 
 static struct model_token nchar(unsigned value)
 {
@@ -55,75 +51,104 @@ static struct model_token nchar(unsigned value)
 
 static const struct model_token null_token = {GOT_NULL, 0};
 
-static unsigned long of_dispatch(struct model_dispatch d) { return d.discarded + d.sent.kind + d.sent.value; }
+static uint32_t our_time[NEFTOLEK_TIME_WORDS];
+static struct model_time model_time;
 
-static unsigned long of_receipt(struct model_receipt r) { return r.discarded + r.tick; }
+OURS(tick, 1, neftolek_link_tick(state, rx, LINK_PLACES, tx, LINK_PLACES, out), total += out[0])
+TESTED(tick, uint32_t, tested_link_tick(&state, rx_places, tx_places, &out), total += out)
+UNTESTED(tick, uint32_t, model_link_tick(&state, rx_places, tx_places), total += out)
 
-#define LENT model_link_refusal(&state, LINK_PLACES, LINK_PLACES)
-#define RECEIVES(token) model_receive_refusal(&state, LINK_PLACES, LINK_PLACES, &time, token)
+OURS(send, 3, neftolek_link_send(state, rx, LINK_PLACES, tx, LINK_PLACES, out),
+     total += out[0] + (out[1] == NEFTOLEK_NOTHING ? 0u : out[2]))
+TESTED(send, struct model_dispatch, tested_link_send(&state, rx_places, tx_places, &out), OF_DISPATCH)
+UNTESTED(send, struct model_dispatch, model_link_send(&state, rx_places, tx_places), OF_DISPATCH)
 
-OURS(tick, neftolek_link_tick(state, rx, LINK_PLACES, tx, LINK_PLACES, out))
-MODEL(tick, LENT, sum += model_link_tick(&state, rx_places, tx_places))
-OURS(send, neftolek_link_send(state, rx, LINK_PLACES, tx, LINK_PLACES, out))
-MODEL(send, LENT, sum += of_dispatch(model_link_send(&state, rx_places, tx_places)))
-OURS(receive, neftolek_link_receive(state, rx, LINK_PLACES, tx, LINK_PLACES, time, NEFTOLEK_NCHAR, k, out))
-MODEL(receive, RECEIVES(nchar(k)),
-      sum += of_receipt(model_link_receive(&state, rx_places, tx_places, &time, nchar(k))))
-OURS(receive_null, neftolek_link_receive(state, rx, LINK_PLACES, tx, LINK_PLACES, time, NEFTOLEK_NULL, 0, out))
-MODEL(receive_null, RECEIVES(null_token),
-      sum += of_receipt(model_link_receive(&state, rx_places, tx_places, &time, null_token)))
-OURS(put, neftolek_link_put(state, tx, LINK_PLACES, k, out))
-MODEL(put, model_put_refusal(&state, LINK_PLACES, k), sum += model_link_put(&state, tx_places, (uint16_t)k))
-OURS(take, neftolek_link_take(state, rx, LINK_PLACES, out))
-MODEL(take, model_take_refusal(&state, LINK_PLACES), sum += model_link_take(&state, rx_places))
+OURS(receive, 2, neftolek_link_receive(state, rx, LINK_PLACES, tx, LINK_PLACES, our_time, NEFTOLEK_NCHAR, k, out),
+     total += out[0] + (out[1] ? 1u : 0u))
+TESTED(receive, struct model_receipt,
+       tested_link_receive(&state, rx_places, tx_places, &model_time, nchar(k), &out), OF_RECEIPT)
+UNTESTED(receive, struct model_receipt,
+         model_link_receive(&state, rx_places, tx_places, &model_time, nchar(k)), OF_RECEIPT)
+
+OURS(receive_null, 2, neftolek_link_receive(state, rx, LINK_PLACES, tx, LINK_PLACES, our_time, NEFTOLEK_NULL, 0, out),
+     total += out[0] + (out[1] ? 1u : 0u))
+TESTED(receive_null, struct model_receipt,
+       tested_link_receive(&state, rx_places, tx_places, &model_time, null_token, &out), OF_RECEIPT)
+UNTESTED(receive_null, struct model_receipt,
+         model_link_receive(&state, rx_places, tx_places, &model_time, null_token), OF_RECEIPT)
+
+OURS(put, 1, neftolek_link_put(state, tx, LINK_PLACES, k, out), total += out[0])
+TESTED(put, uint32_t, tested_link_put(&state, tx_places, k, &out), total += out)
+UNTESTED(put, uint32_t, model_link_put(&state, tx_places, (uint16_t)k), total += out)
+
+OURS(take, 2, neftolek_link_take(state, rx, LINK_PLACES, out), total += out[1])
+TESTED(take, uint16_t, tested_link_take(&state, rx_places, &out), total += out)
+UNTESTED(take, uint16_t, model_link_take(&state, rx_places), total += out)
+
+OURS(control, 1, neftolek_link_control(state, rx, LINK_PLACES, tx, LINK_PLACES, 0, 1, k % 2, out), total += out[0])
+TESTED(control, uint32_t, tested_link_control(&state, rx_places, tx_places, false, true, k % 2, &out), total += out)
+UNTESTED(control, uint32_t, model_link_control(&state, rx_places, tx_places, false, true, k % 2), total += out)
 
 /* From fresh with LinkStart on, through the timers of four states. */
+enum { TICKS = 1000 };
+
 static unsigned timers_ours(void)
 {
     uint32_t state[NEFTOLEK_LINK_WORDS], out[1];
+    unsigned long total = 0;
     neftolek_link_fresh(state);
     neftolek_link_control(state, rx, LINK_PLACES, tx, LINK_PLACES, 0, 1, 0, out);
-    for (unsigned k = 0; k < 1000; k++) {
-        neftolek_link_tick(state, rx, LINK_PLACES, tx, LINK_PLACES, out);
-        sum += state[0];
+    for (unsigned k = 0; k < TICKS; k++) {
+        if (neftolek_link_tick(state, rx, LINK_PLACES, tx, LINK_PLACES, out) != 0)
+            continue;
+        total += state[0] + out[0];
     }
-    return 1000;
-}
-
-static unsigned timers_model(void)
-{
-    struct model_link state;
-    memset(&state, 0, sizeof state);
-    model_link_control(&state, rx_places, tx_places, false, true, false);
-    for (unsigned k = 0; k < 1000; k++) {
-        model_link_tick(&state, rx_places, tx_places);
-        sum += state.state;
-    }
-    return 1000;
+    sum += total;
+    return TICKS;
 }
 
 static unsigned timers_tested(void)
 {
     struct model_link state;
+    uint32_t out;
+    unsigned long total = 0;
+    memset(&state, 0, sizeof state);
+    tested_link_control(&state, rx_places, tx_places, false, true, false, &out);
+    for (unsigned k = 0; k < TICKS; k++) {
+        if (tested_link_tick(&state, rx_places, tx_places, &out) != 0)
+            continue;
+        total += state.state + out;
+    }
+    sum += total;
+    return TICKS;
+}
+
+static unsigned timers_untested(void)
+{
+    struct model_link state;
+    unsigned long total = 0;
     memset(&state, 0, sizeof state);
     model_link_control(&state, rx_places, tx_places, false, true, false);
-    for (unsigned k = 0; k < 1000; k++) {
-        if (LENT == 0)
-            model_link_tick(&state, rx_places, tx_places);
-        sum += state.state;
+    for (unsigned k = 0; k < TICKS; k++) {
+        uint32_t out = model_link_tick(&state, rx_places, tx_places);
+        total += state.state + out;
     }
-    return 1000;
+    sum += total;
+    return TICKS;
 }
 
 void measure_link(void)
 {
+    static const struct bars bars = {1.6, 0};
     for (unsigned k = 0; k < LINK_PLACES; k++)
         rx[k] = tx[k] = k % 32 == 31 ? MODEL_EOP : (uint16_t)(k % 256);
-    measure("link tick, in Run", 1.5, tick_ours, tick_model, tick_tested);
-    measure("link tick, through the timers", 1.5, timers_ours, timers_model, timers_tested);
-    measure("link send, an N-Char", 1.5, send_ours, send_model, send_tested);
-    measure("link receive, an N-Char", 1.5, receive_ours, receive_model, receive_tested);
-    measure("link receive, a NULL", 1.5, receive_null_ours, receive_null_model, receive_null_tested);
-    measure("link put", 1.5, put_ours, put_model, put_tested);
-    measure("link take", 1.5, take_ours, take_model, take_tested);
+    heading("a link end");
+    measure("tick, in Run", bars, SIDES(tick));
+    measure("tick, through the timers", bars, SIDES(timers));
+    measure("receive an N-Char", bars, SIDES(receive));
+    measure("receive a NULL", bars, SIDES(receive_null));
+    measure("send an N-Char", bars, SIDES(send));
+    measure("put", bars, SIDES(put));
+    measure("take", bars, SIDES(take));
+    measure("control", bars, SIDES(control));
 }

@@ -4,6 +4,8 @@
 
 typedef __SIZE_TYPE__ size_t;
 
+#define offsetof(type, member) __builtin_offsetof(type, member)
+
 #ifdef __cplusplus
 #define NULL 0
 #else

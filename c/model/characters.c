@@ -1,5 +1,6 @@
 /* Characters on the wire (document 01). */
 #include "model.h"
+#include "token.h"
 
 /* Control bodies, the first sent bit least significant: 00 FCT, 01 EOP, 10 EEP, 11 ESC in sending order. */
 enum { BODY_FCT = 0, BODY_EEP = 1, BODY_EOP = 2, BODY_ESC = 3 };
@@ -145,10 +146,17 @@ struct model_token model_decoder_tick(struct model_decoder *d)
     return stop(d, DISCONNECT);
 }
 
-unsigned model_encode_refusal(struct model_token t)
+/* The tests. A bool has no values but its own. */
+
+unsigned tested_encode(struct model_encoder *e, struct model_token t, struct model_bits *bits)
 {
-    bool is_token = t.kind >= GOT_NULL && t.kind <= GOT_TIMECODE;
-    return !is_token || (t.kind == GOT_NCHAR && t.value > MODEL_EEP) ? MODEL_CHAR : 0;
+    static const struct model_bits none;
+    if (token_bad(t)) {
+        *bits = none;
+        return MODEL_CHAR;
+    }
+    *bits = model_encode(e, t);
+    return 0;
 }
 
 /* "A decoder or encoder field outside the values its rules give it": only what the phase uses is looked at. */
@@ -162,18 +170,32 @@ static bool bad_decoder(const struct model_decoder *d)
         return d->ticks > 8 || d->window == 0x74;
     case AT_PARITY:
     case AT_FLAG:
-        return d->ticks > 8 || (d->waiting.kind == GOT_NCHAR && d->waiting.value > MODEL_EEP);
+        return d->ticks > 8 || value_bad(d->waiting);
     case IN_DATA:
-        return d->ticks > 8 || d->count > 7;
+        return d->ticks > 8 || d->count > 7 || d->body >> d->count;
     case IN_CONTROL:
-        return d->ticks > 8 || d->count > 1;
+        return d->ticks > 8 || d->count > 1 || d->body >> d->count;
     }
     return true;
 }
 
-unsigned model_decoder_refusal(const struct model_decoder *d)
+static unsigned decoder_refusal(const struct model_decoder *d)
 {
     if (bad_decoder(d))
         return MODEL_STATE;
     return d->phase == STOPPED ? MODEL_STOPPED : 0;
+}
+
+unsigned tested_decoder_bit(struct model_decoder *d, bool bit, struct model_token *report)
+{
+    unsigned refusal = decoder_refusal(d);
+    *report = refusal ? token(NOTHING, 0) : model_decoder_bit(d, bit);
+    return refusal;
+}
+
+unsigned tested_decoder_tick(struct model_decoder *d, struct model_token *report)
+{
+    unsigned refusal = decoder_refusal(d);
+    *report = refusal ? token(NOTHING, 0) : model_decoder_tick(d);
+    return refusal;
 }

@@ -1,6 +1,7 @@
 /* Stores and the link end (document 01). */
 #include "model.h"
 #include "store.h"
+#include "token.h"
 
 enum event { QUIET, FAULT, FCT, NCHAR, TIMECODE, CREDIT_ERROR };
 
@@ -249,13 +250,13 @@ void model_link_offer(struct model_link *l, uint8_t code)
     l->code = code;
 }
 
-/* The refusals: STATE tests that need no size, STORE, STATE tests that need one, the rest in order. */
+/* The tests: STATE where it needs no size, STORE, STATE where it needs one, the rest in order. */
 
 static bool bad_record(const struct model_link *l)
 {
     bool linked = l->state == CONNECTING || l->state == RUN;
-    return l->held > 56 || l->given > 56 || (l->held > 0 && l->state != RUN) || (l->given > 0 && !linked) ||
-           l->timer >= limit[l->state];
+    return l->state > RUN || l->timer >= limit[l->state] || l->held > 56 || l->given > 56 ||
+           (l->held > 0 && l->state != RUN) || (l->given > 0 && !linked);
 }
 
 static bool bad_receive_store(const struct model_link *l, uint32_t size)
@@ -268,51 +269,119 @@ static bool bad_receive_size(uint32_t size) { return size < 9 || size > 4096; }
 
 static bool bad_transmit_size(uint32_t size) { return size < 1 || size > 4096; }
 
-unsigned model_link_refusal(const struct model_link *l, uint32_t rx_size, uint32_t tx_size)
+static unsigned stores_refusal(const struct model_link *l, struct model_places rx, struct model_places tx)
+{
+    if (bad_receive_size(rx.size) || bad_transmit_size(tx.size))
+        return MODEL_STORE;
+    return bad_receive_store(l, rx.size) || store_bad(&l->tx, tx.size) ? MODEL_STATE : 0;
+}
+
+static unsigned lent_refusal(const struct model_link *l, struct model_places rx, struct model_places tx)
+{
+    return bad_record(l) ? MODEL_STATE : stores_refusal(l, rx, tx);
+}
+
+unsigned tested_link_tick(struct model_link *l, struct model_places rx, struct model_places tx, uint32_t *discarded)
+{
+    unsigned refusal = lent_refusal(l, rx, tx);
+    *discarded = refusal ? 0 : model_link_tick(l, rx, tx);
+    return refusal;
+}
+
+unsigned tested_link_fault(struct model_link *l, struct model_places rx, struct model_places tx, uint32_t fault,
+                           uint32_t *discarded)
+{
+    unsigned refusal = lent_refusal(l, rx, tx);
+    if (refusal == 0 && (fault < PARITY_ERROR || fault > DISCONNECT))
+        refusal = MODEL_CHAR;
+    *discarded = refusal ? 0 : model_link_fault(l, rx, tx, (enum model_kind)fault);
+    return refusal;
+}
+
+unsigned tested_link_control(struct model_link *l, struct model_places rx, struct model_places tx, bool disabled,
+                             bool start, bool autostart, uint32_t *discarded)
+{
+    unsigned refusal = lent_refusal(l, rx, tx);
+    *discarded = refusal ? 0 : model_link_control(l, rx, tx, disabled, start, autostart);
+    return refusal;
+}
+
+unsigned tested_link_reset(struct model_link *l, struct model_places rx, struct model_places tx, uint32_t *discarded)
+{
+    unsigned refusal = lent_refusal(l, rx, tx);
+    *discarded = refusal ? 0 : model_link_reset(l, rx);
+    return refusal;
+}
+
+static unsigned receive_refusal(const struct model_link *l, struct model_places rx, struct model_places tx,
+                                const struct model_time *time, struct model_token t)
+{
+    unsigned refusal = time->count > 63 ? MODEL_STATE : lent_refusal(l, rx, tx);
+    return refusal ? refusal : token_bad(t) ? MODEL_CHAR : 0;
+}
+
+unsigned tested_link_receive(struct model_link *l, struct model_places rx, struct model_places tx,
+                             struct model_time *time, struct model_token t, struct model_receipt *receipt)
+{
+    static const struct model_receipt none;
+    unsigned refusal = receive_refusal(l, rx, tx, time, t);
+    *receipt = refusal ? none : model_link_receive(l, rx, tx, time, t);
+    return refusal;
+}
+
+unsigned tested_link_send(struct model_link *l, struct model_places rx, struct model_places tx,
+                          struct model_dispatch *dispatch)
+{
+    static const struct model_dispatch none;
+    unsigned refusal = lent_refusal(l, rx, tx);
+    *dispatch = refusal ? none : model_link_send(l, rx, tx);
+    return refusal;
+}
+
+static unsigned put_refusal(const struct model_link *l, uint32_t size, uint32_t n)
 {
     if (bad_record(l))
         return MODEL_STATE;
-    if (bad_receive_size(rx_size) || bad_transmit_size(tx_size))
+    if (bad_transmit_size(size))
         return MODEL_STORE;
-    return bad_receive_store(l, rx_size) || store_bad(&l->tx, tx_size) ? MODEL_STATE : 0;
-}
-
-unsigned model_receive_refusal(const struct model_link *l, uint32_t rx_size, uint32_t tx_size,
-                               const struct model_time *time, struct model_token t)
-{
-    unsigned lent = model_link_refusal(l, rx_size, tx_size);
-    if (time->count > 63)
-        return MODEL_STATE;
-    return lent ? lent : model_encode_refusal(t);
-}
-
-unsigned model_put_refusal(const struct model_link *l, uint32_t tx_size, uint32_t n)
-{
-    if (bad_record(l))
-        return MODEL_STATE;
-    if (bad_transmit_size(tx_size))
-        return MODEL_STORE;
-    if (store_bad(&l->tx, tx_size))
+    if (store_bad(&l->tx, size))
         return MODEL_STATE;
     if (n > MODEL_EEP)
         return MODEL_CHAR;
-    return !l->discarding && l->tx.length == tx_size ? MODEL_FULL : 0;
+    return !l->discarding && l->tx.length == size ? MODEL_FULL : 0;
 }
 
-unsigned model_take_refusal(const struct model_link *l, uint32_t rx_size)
+unsigned tested_link_put(struct model_link *l, struct model_places tx, uint32_t n, uint32_t *discarded)
+{
+    unsigned refusal = put_refusal(l, tx.size, n);
+    *discarded = refusal ? 0 : model_link_put(l, tx, (uint16_t)n);
+    return refusal;
+}
+
+static unsigned take_refusal(const struct model_link *l, uint32_t size)
 {
     if (bad_record(l))
         return MODEL_STATE;
-    if (bad_receive_size(rx_size))
+    if (bad_receive_size(size))
         return MODEL_STORE;
-    if (bad_receive_store(l, rx_size))
+    if (bad_receive_store(l, size))
         return MODEL_STATE;
     return l->rx.length == 0 ? MODEL_EMPTY : 0;
 }
 
-unsigned model_offer_refusal(const struct model_link *l)
+unsigned tested_link_take(struct model_link *l, struct model_places rx, uint16_t *n)
+{
+    unsigned refusal = take_refusal(l, rx.size);
+    *n = refusal ? 0 : model_link_take(l, rx);
+    return refusal;
+}
+
+unsigned tested_link_offer(struct model_link *l, uint8_t code)
 {
     if (bad_record(l))
         return MODEL_STATE;
-    return l->state != RUN ? MODEL_NOTRUN : 0;
+    if (l->state != RUN)
+        return MODEL_NOTRUN;
+    model_link_offer(l, code);
+    return 0;
 }

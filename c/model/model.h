@@ -1,8 +1,8 @@
 /* A plain model of document 01, written from the paper and independent of the proved code.
  *
- * The calls test nothing: they are what a bench would write without proofs, and the benchmark's baseline.
- * What each call refuses stands apart, in the functions named .._refusal: 0, or the number of the first
- * refusal that applies. A caller that wants the whole of document 01 asks for the refusal first. */
+ * Each call stands twice. Those named model_.. test nothing of what they are handed: what a bench would write without
+ * proofs. Those named tested_.. make document 01's tests first: they answer 0, or the number of the first refusal that
+ * applies, and then leave everything as it was and their further answer zero. */
 #ifndef MODEL_H
 #define MODEL_H
 
@@ -50,11 +50,11 @@ struct model_decoder {
     uint8_t phase;
     uint8_t ticks;  /* since the last bit */
     uint8_t window; /* hunting: the last eight bits, the newest least significant */
-    uint8_t parity; /* at a flag: the parity bit before it */
-    uint8_t escape; /* an ESC stands before this character */
+    bool parity;    /* at a flag: the parity bit before it */
+    bool escape;    /* an ESC stands before this character */
     uint8_t count;  /* bits of the body so far */
     uint8_t body;   /* the bits, first least significant */
-    uint8_t odd;    /* the ones in the previous body are odd in number */
+    bool odd;       /* the ones in the previous body are odd in number */
     struct model_token waiting;
 };
 
@@ -62,8 +62,9 @@ struct model_bits model_encode(struct model_encoder *e, struct model_token t);
 struct model_token model_decoder_bit(struct model_decoder *d, bool bit);
 struct model_token model_decoder_tick(struct model_decoder *d);
 
-unsigned model_encode_refusal(struct model_token t);
-unsigned model_decoder_refusal(const struct model_decoder *d);
+unsigned tested_encode(struct model_encoder *e, struct model_token t, struct model_bits *bits);
+unsigned tested_decoder_bit(struct model_decoder *d, bool bit, struct model_token *report);
+unsigned tested_decoder_tick(struct model_decoder *d, struct model_token *report);
 
 /* Stores: what is kept of one, and its places, which the host lends. */
 
@@ -121,17 +122,23 @@ uint32_t model_link_put(struct model_link *l, struct model_places tx, uint16_t n
 uint16_t model_link_take(struct model_link *l, struct model_places rx);
 void model_link_offer(struct model_link *l, uint8_t code);
 
-/* Tick, fault, control, send and reset. */
-unsigned model_link_refusal(const struct model_link *l, uint32_t rx_size, uint32_t tx_size);
-unsigned model_receive_refusal(const struct model_link *l, uint32_t rx_size, uint32_t tx_size,
-                               const struct model_time *time, struct model_token t);
-unsigned model_put_refusal(const struct model_link *l, uint32_t tx_size, uint32_t n);
-unsigned model_take_refusal(const struct model_link *l, uint32_t rx_size);
-unsigned model_offer_refusal(const struct model_link *l);
+unsigned tested_link_tick(struct model_link *l, struct model_places rx, struct model_places tx, uint32_t *discarded);
+unsigned tested_link_fault(struct model_link *l, struct model_places rx, struct model_places tx, uint32_t fault,
+                           uint32_t *discarded);
+unsigned tested_link_control(struct model_link *l, struct model_places rx, struct model_places tx, bool disabled,
+                             bool start, bool autostart, uint32_t *discarded);
+unsigned tested_link_reset(struct model_link *l, struct model_places rx, struct model_places tx, uint32_t *discarded);
+unsigned tested_link_receive(struct model_link *l, struct model_places rx, struct model_places tx,
+                             struct model_time *time, struct model_token t, struct model_receipt *receipt);
+unsigned tested_link_send(struct model_link *l, struct model_places rx, struct model_places tx,
+                          struct model_dispatch *dispatch);
+unsigned tested_link_put(struct model_link *l, struct model_places tx, uint32_t n, uint32_t *discarded);
+unsigned tested_link_take(struct model_link *l, struct model_places rx, uint16_t *n);
+unsigned tested_link_offer(struct model_link *l, uint8_t code);
 
 /* The router */
 
-enum { MODEL_PORTS = 11, MODEL_ROWS = 256 };
+enum { MODEL_PORTS = 11, MODEL_ROWS = 256, MODEL_HELD = 11 };
 
 #define MODEL_INVALID_ROW UINT32_C(0x80000000)
 
@@ -166,18 +173,34 @@ void model_router_fresh(struct model_router *r);
 void model_table_fresh(uint32_t table[MODEL_ROWS]);
 void model_router_put(struct model_router *r, struct model_places area, unsigned port, uint16_t n);
 uint16_t model_router_take(struct model_router *r, struct model_places area, unsigned port);
-struct model_ran model_router_run(struct model_router *r, struct model_places area, const uint32_t table[MODEL_ROWS],
-                                  unsigned limit);
 void model_row_write(uint32_t table[MODEL_ROWS], unsigned row, uint32_t value);
 
-unsigned model_router_put_refusal(const struct model_router *r, uint32_t area_size, uint32_t port, uint32_t n);
-unsigned model_router_take_refusal(const struct model_router *r, uint32_t area_size, uint32_t port);
-unsigned model_router_run_refusal(const struct model_router *r, uint32_t area_size, uint32_t limit);
-unsigned model_row_refusal(const struct model_router *r, uint32_t row);
-unsigned model_held_refusal(const struct model_router *r, uint32_t port);
+/* The run as the paper has it, which looks at every input for every output in every round; one that looks only at the
+ * outputs that are wanted; and one that keeps through the run which inputs have something to do. They leave and answer
+ * the same. */
+struct model_ran model_router_run(struct model_router *r, struct model_places area, const uint32_t table[MODEL_ROWS],
+                                  unsigned limit);
+struct model_ran sensible_router_run(struct model_router *r, struct model_places area,
+                                     const uint32_t table[MODEL_ROWS], unsigned limit);
+struct model_ran sets_router_run(struct model_router *r, struct model_places area, const uint32_t table[MODEL_ROWS],
+                                 unsigned limit);
 
-/* What is still held through a port: its input's mode, wanted ports, high priority, output and length; whether its output
- * is owned, the owner, its length; the inputs that wait for it, those that hold N-Chars, and whether nothing is held. */
-void model_router_held(const struct model_router *r, unsigned port, uint32_t held[11]);
+/* What is still held through a port: its input's mode, wanted ports, high priority, output and length; whether its
+ * output is owned, the owner, its length; the inputs that wait for it, those that hold N-Chars, and whether nothing is
+ * held. */
+void model_router_held(const struct model_router *r, unsigned port, uint32_t held[MODEL_HELD]);
+
+unsigned tested_router_put(struct model_router *r, struct model_places area, uint32_t port, uint32_t n);
+unsigned tested_router_take(struct model_router *r, struct model_places area, uint32_t port, uint16_t *n);
+unsigned tested_router_run(struct model_router *r, struct model_places area, const uint32_t table[MODEL_ROWS],
+                           uint32_t limit, struct model_ran *ran);
+unsigned tested_sensible_run(struct model_router *r, struct model_places area, const uint32_t table[MODEL_ROWS],
+                             uint32_t limit, struct model_ran *ran);
+unsigned tested_sets_run(struct model_router *r, struct model_places area, const uint32_t table[MODEL_ROWS],
+                         uint32_t limit, struct model_ran *ran);
+unsigned tested_row_write(const struct model_router *r, uint32_t table[MODEL_ROWS], uint32_t row, uint32_t value);
+unsigned tested_row_read(const struct model_router *r, const uint32_t table[MODEL_ROWS], uint32_t row,
+                         uint32_t *value);
+unsigned tested_router_held(const struct model_router *r, uint32_t port, uint32_t held[MODEL_HELD]);
 
 #endif

@@ -4,24 +4,29 @@
 
 enum { REQUESTS = 0x7fe, DELETES_HEADER = 29, HIGH_PRIORITY = 30, INVALID = 31 };
 
+enum { STORES = 2 * MODEL_PORTS, LAST = MODEL_PORTS - 1 };
+
 static struct model_places places_of(struct model_places area, unsigned store)
 {
     struct model_places one;
-    one.size = area.size / 22;
+    one.size = area.size / STORES;
     one.at = area.at + store * one.size;
     return one;
 }
 
 static struct model_places in_places(struct model_places area, unsigned port) { return places_of(area, port); }
 
-static struct model_places out_places(struct model_places area, unsigned port) { return places_of(area, 11 + port); }
+static struct model_places out_places(struct model_places area, unsigned port)
+{
+    return places_of(area, MODEL_PORTS + port);
+}
 
 void model_router_fresh(struct model_router *r)
 {
     static const struct model_router fresh;
     *r = fresh;
     for (unsigned o = 0; o < MODEL_PORTS; o++)
-        r->outputs[o].last = 10;
+        r->outputs[o].last = LAST;
 }
 
 void model_table_fresh(uint32_t table[MODEL_ROWS])
@@ -60,7 +65,7 @@ static bool read_address(struct model_router *r, struct model_places area, const
     uint16_t n = store_front(&r->in[i], places);
     if (n >= MODEL_EOP) {
         store_take(&r->in[i], places);
-    } else if (n <= 10) {
+    } else if (n <= LAST) {
         wait_for(&r->inputs[i], 1u << n, false);
         store_take(&r->in[i], places);
     } else if (n <= 31 || table[n] >> INVALID || !(table[n] & REQUESTS)) {
@@ -86,7 +91,7 @@ static bool grant(struct model_router *r, unsigned o)
     for (int high = 1; high >= 0; high--) {
         unsigned i = out->last;
         for (unsigned k = 0; k < MODEL_PORTS; k++) {
-            i = i == 10 ? 0 : i + 1;
+            i = i == LAST ? 0 : i + 1;
             if (!wants(&r->inputs[i], o, high))
                 continue;
             out->owned = true;
@@ -126,18 +131,10 @@ static bool spill(struct model_router *r, struct model_places area, unsigned i)
     return true;
 }
 
-/* One round; true when it changed anything. */
-static bool one_round(struct model_router *r, struct model_places area, const uint32_t *table, struct model_ran *ran)
+/* Part 3; true when it changed anything. */
+static bool move_all(struct model_router *r, struct model_places area, struct model_ran *ran)
 {
     bool changed = false;
-    for (unsigned i = 0; i < MODEL_PORTS; i++)
-        if (r->inputs[i].mode == IDLE && r->in[i].length > 0) {
-            ran->errors += read_address(r, area, table, i);
-            changed = true;
-        }
-    for (unsigned o = 0; o < MODEL_PORTS; o++)
-        if (!r->outputs[o].owned && grant(r, o))
-            changed = true;
     for (unsigned i = 0; i < MODEL_PORTS; i++) {
         if (r->inputs[i].mode == ROUTED && move(r, area, i)) {
             ran->moved++;
@@ -149,6 +146,21 @@ static bool one_round(struct model_router *r, struct model_places area, const ui
     return changed;
 }
 
+/* One round; true when it changed anything. */
+static bool plain_round(struct model_router *r, struct model_places area, const uint32_t *table, struct model_ran *ran)
+{
+    bool changed = false;
+    for (unsigned i = 0; i < MODEL_PORTS; i++)
+        if (r->inputs[i].mode == IDLE && r->in[i].length > 0) {
+            ran->errors += read_address(r, area, table, i);
+            changed = true;
+        }
+    for (unsigned o = 0; o < MODEL_PORTS; o++)
+        if (!r->outputs[o].owned && grant(r, o))
+            changed = true;
+    return move_all(r, area, ran) || changed;
+}
+
 struct model_ran model_router_run(struct model_router *r, struct model_places area, const uint32_t table[MODEL_ROWS],
                                   unsigned limit)
 {
@@ -156,12 +168,169 @@ struct model_ran model_router_run(struct model_router *r, struct model_places ar
     bool changed = true;
     while (changed && ran.rounds < limit) {
         ran.rounds++;
-        changed = one_round(r, area, table, &ran);
+        changed = plain_round(r, area, table, &ran);
     }
     return ran;
 }
 
-void model_router_held(const struct model_router *r, unsigned port, uint32_t held[11])
+/* The sensible run: the pass over the inputs gathers which outputs are wanted, and only those are looked at. */
+
+#define BIT(p) (1u << (p))
+
+static unsigned lowest(unsigned set) { return (unsigned)__builtin_ctz(set); }
+
+static bool sensible_round(struct model_router *r, struct model_places area, const uint32_t *table,
+                           struct model_ran *ran)
+{
+    bool changed = false;
+    unsigned wanted = 0;
+    for (unsigned i = 0; i < MODEL_PORTS; i++) {
+        if (r->inputs[i].mode == IDLE && r->in[i].length > 0) {
+            ran->errors += read_address(r, area, table, i);
+            changed = true;
+        }
+        if (r->inputs[i].mode == WAITING)
+            wanted |= r->inputs[i].ports;
+    }
+    for (; wanted; wanted &= wanted - 1)
+        if (!r->outputs[lowest(wanted)].owned && grant(r, lowest(wanted)))
+            changed = true;
+    return move_all(r, area, ran) || changed;
+}
+
+struct model_ran sensible_router_run(struct model_router *r, struct model_places area,
+                                     const uint32_t table[MODEL_ROWS], unsigned limit)
+{
+    struct model_ran ran = {0, 0, 0};
+    bool changed = true;
+    while (changed && ran.rounds < limit) {
+        ran.rounds++;
+        changed = sensible_round(r, area, table, &ran);
+    }
+    return ran;
+}
+
+/* The run with sets: which inputs have something to do is kept through the run, as sets in which bit p is port p. What
+ * cannot go on before the host puts or takes is in none of them. */
+struct sets {
+    unsigned reading;        /* idle, with a front N-Char */
+    unsigned waiting, high;  /* waiting, and those of them at high priority */
+    unsigned going;          /* routed or spilling */
+    unsigned owned;          /* outputs */
+};
+
+/* Puts an input to the sets that it belongs to; it is in none of them. */
+static void sort_in(struct sets *s, const struct model_router *r, unsigned i)
+{
+    switch (r->inputs[i].mode) {
+    case IDLE:
+        s->reading |= r->in[i].length > 0 ? BIT(i) : 0;
+        break;
+    case WAITING:
+        s->waiting |= BIT(i);
+        s->high |= r->inputs[i].high ? BIT(i) : 0;
+        break;
+    default:
+        s->going |= BIT(i);
+    }
+}
+
+static struct sets all_sets(const struct model_router *r)
+{
+    struct sets s = {0, 0, 0, 0, 0};
+    for (unsigned p = 0; p < MODEL_PORTS; p++) {
+        sort_in(&s, r, p);
+        s.owned |= r->outputs[p].owned ? BIT(p) : 0;
+    }
+    return s;
+}
+
+static unsigned read_addresses(struct sets *s, struct model_router *r, struct model_places area, const uint32_t *table)
+{
+    unsigned errors = 0, todo = s->reading;
+    s->reading = 0;
+    for (; todo; todo &= todo - 1) {
+        errors += read_address(r, area, table, lowest(todo));
+        sort_in(s, r, lowest(todo));
+    }
+    return errors;
+}
+
+/* The waiting inputs that want an output. */
+static unsigned wanting(const struct sets *s, const struct model_router *r, unsigned o)
+{
+    unsigned set = 0;
+    for (unsigned todo = s->waiting; todo; todo &= todo - 1)
+        set |= r->inputs[lowest(todo)].ports & BIT(o) ? todo & -todo : 0;
+    return set;
+}
+
+static void grant_to(struct sets *s, struct model_router *r, unsigned o, unsigned i)
+{
+    r->outputs[o].owned = true;
+    r->outputs[o].owner = r->outputs[o].last = i;
+    r->inputs[i].mode = ROUTED;
+    r->inputs[i].output = o;
+    s->owned |= BIT(o);
+    s->waiting &= ~BIT(i);
+    s->high &= ~BIT(i);
+    s->going |= BIT(i);
+}
+
+/* True when an output was granted. */
+static bool grant_all(struct sets *s, struct model_router *r)
+{
+    unsigned wanted = 0, before = s->owned;
+    for (unsigned todo = s->waiting; todo; todo &= todo - 1)
+        wanted |= r->inputs[lowest(todo)].ports;
+    for (wanted &= ~s->owned; wanted; wanted &= wanted - 1) {
+        unsigned o = lowest(wanted), set = wanting(s, r, o), after;
+        if (set == 0)
+            continue;
+        set = set & s->high ? set & s->high : set;
+        after = set & ~(2 * BIT(r->outputs[o].last) - 1);
+        grant_to(s, r, o, lowest(after ? after : set));
+    }
+    return s->owned != before;
+}
+
+/* Part 3; answers how many were moved or discarded. One that cannot go on leaves its set. */
+static unsigned go_on(struct sets *s, struct model_router *r, struct model_places area, struct model_ran *ran)
+{
+    unsigned changes = 0;
+    for (unsigned todo = s->going; todo; todo &= todo - 1) {
+        unsigned i = lowest(todo);
+        bool routed = r->inputs[i].mode == ROUTED, went = routed ? move(r, area, i) : spill(r, area, i);
+        changes += went;
+        ran->moved += routed && went;
+        if (!went) {
+            s->going &= ~BIT(i);
+        } else if (r->inputs[i].mode == IDLE) {
+            s->going &= ~BIT(i);
+            s->owned &= routed ? ~BIT(r->inputs[i].output) : ~0u;
+            sort_in(s, r, i);
+        }
+    }
+    return changes;
+}
+
+struct model_ran sets_router_run(struct model_router *r, struct model_places area,
+                                 const uint32_t table[MODEL_ROWS], unsigned limit)
+{
+    struct model_ran ran = {0, 0, 0};
+    struct sets s = all_sets(r);
+    bool changed = true;
+    while (changed && ran.rounds < limit) {
+        ran.rounds++;
+        changed = s.reading != 0;
+        ran.errors += s.reading ? read_addresses(&s, r, area, table) : 0;
+        changed |= s.waiting && grant_all(&s, r);
+        changed |= go_on(&s, r, area, &ran) > 0;
+    }
+    return ran;
+}
+
+void model_router_held(const struct model_router *r, unsigned port, uint32_t held[MODEL_HELD])
 {
     const struct model_input *in = &r->inputs[port];
     const struct model_output *out = &r->outputs[port];
@@ -183,22 +352,27 @@ void model_router_held(const struct model_router *r, unsigned port, uint32_t hel
     held[10] = in->mode == IDLE && held[4] == 0 && !out->owned && held[7] == 0 && wanted == 0;
 }
 
-/* The refusals. */
+/* The tests. */
 
 static bool bad_input(const struct model_router *r, unsigned i)
 {
     const struct model_input *in = &r->inputs[i];
-    if (in->mode == WAITING)
+    switch (in->mode) {
+    case IDLE:
+    case SPILLING:
+        return false;
+    case WAITING:
         return in->ports == 0 || in->ports >> MODEL_PORTS;
-    if (in->mode == ROUTED)
-        return in->output > 10 || !r->outputs[in->output].owned || r->outputs[in->output].owner != i;
-    return false;
+    case ROUTED:
+        return in->output > LAST || !r->outputs[in->output].owned || r->outputs[in->output].owner != i;
+    }
+    return true;
 }
 
 static bool bad_output(const struct model_router *r, unsigned o)
 {
     const struct model_output *out = &r->outputs[o];
-    if (out->last > 10 || (out->owned && out->owner > 10))
+    if (out->last > LAST || (out->owned && out->owner > LAST))
         return true;
     return out->owned && (r->inputs[out->owner].mode != ROUTED || r->inputs[out->owner].output != o);
 }
@@ -211,12 +385,12 @@ static bool bad_ports(const struct model_router *r)
     return false;
 }
 
-static unsigned lent_refusal(const struct model_router *r, uint32_t area_size)
+static unsigned lent_refusal(const struct model_router *r, struct model_places area)
 {
-    uint32_t size = area_size / 22;
+    uint32_t size = area.size / STORES;
     if (bad_ports(r))
         return MODEL_STATE;
-    if (area_size % 22 != 0 || size < 9 || size > 1024)
+    if (area.size % STORES != 0 || size < 9 || size > 1024)
         return MODEL_STORE;
     for (unsigned p = 0; p < MODEL_PORTS; p++)
         if (store_bad(&r->in[p], size) || store_bad(&r->out[p], size))
@@ -224,44 +398,99 @@ static unsigned lent_refusal(const struct model_router *r, uint32_t area_size)
     return 0;
 }
 
-unsigned model_router_put_refusal(const struct model_router *r, uint32_t area_size, uint32_t port, uint32_t n)
+unsigned tested_router_put(struct model_router *r, struct model_places area, uint32_t port, uint32_t n)
 {
-    unsigned lent = lent_refusal(r, area_size);
+    unsigned lent = lent_refusal(r, area);
     if (lent)
         return lent;
-    if (port > 10)
+    if (port > LAST)
         return MODEL_PORT;
     if (n > MODEL_EEP)
         return MODEL_CHAR;
-    return r->in[port].length == area_size / 22 ? MODEL_FULL : 0;
+    if (r->in[port].length == area.size / STORES)
+        return MODEL_FULL;
+    model_router_put(r, area, port, (uint16_t)n);
+    return 0;
 }
 
-unsigned model_router_take_refusal(const struct model_router *r, uint32_t area_size, uint32_t port)
+static unsigned take_refusal(const struct model_router *r, struct model_places area, uint32_t port)
 {
-    unsigned lent = lent_refusal(r, area_size);
+    unsigned lent = lent_refusal(r, area);
     if (lent)
         return lent;
-    if (port > 10)
+    if (port > LAST)
         return MODEL_PORT;
     return r->out[port].length == 0 ? MODEL_EMPTY : 0;
 }
 
-unsigned model_router_run_refusal(const struct model_router *r, uint32_t area_size, uint32_t limit)
+unsigned tested_router_take(struct model_router *r, struct model_places area, uint32_t port, uint16_t *n)
 {
-    unsigned lent = lent_refusal(r, area_size);
+    unsigned refusal = take_refusal(r, area, port);
+    *n = refusal ? 0 : model_router_take(r, area, port);
+    return refusal;
+}
+
+static unsigned run_refusal(const struct model_router *r, struct model_places area, uint32_t limit)
+{
+    unsigned lent = lent_refusal(r, area);
     return lent ? lent : limit > 10000 ? MODEL_ROUNDS : 0;
 }
 
-unsigned model_row_refusal(const struct model_router *r, uint32_t row)
+static const struct model_ran no_run;
+
+unsigned tested_router_run(struct model_router *r, struct model_places area, const uint32_t table[MODEL_ROWS],
+                           uint32_t limit, struct model_ran *ran)
 {
-    if (bad_ports(r))
-        return MODEL_STATE;
-    return row < 32 || row > 255 ? MODEL_ROW : 0;
+    unsigned refusal = run_refusal(r, area, limit);
+    *ran = refusal ? no_run : model_router_run(r, area, table, limit);
+    return refusal;
 }
 
-unsigned model_held_refusal(const struct model_router *r, uint32_t port)
+unsigned tested_sensible_run(struct model_router *r, struct model_places area, const uint32_t table[MODEL_ROWS],
+                             uint32_t limit, struct model_ran *ran)
+{
+    unsigned refusal = run_refusal(r, area, limit);
+    *ran = refusal ? no_run : sensible_router_run(r, area, table, limit);
+    return refusal;
+}
+
+unsigned tested_sets_run(struct model_router *r, struct model_places area, const uint32_t table[MODEL_ROWS],
+                         uint32_t limit, struct model_ran *ran)
+{
+    unsigned refusal = run_refusal(r, area, limit);
+    *ran = refusal ? no_run : sets_router_run(r, area, table, limit);
+    return refusal;
+}
+
+static unsigned row_refusal(const struct model_router *r, uint32_t row)
 {
     if (bad_ports(r))
         return MODEL_STATE;
-    return port > 10 ? MODEL_PORT : 0;
+    return row < 32 || row >= MODEL_ROWS ? MODEL_ROW : 0;
+}
+
+unsigned tested_row_write(const struct model_router *r, uint32_t table[MODEL_ROWS], uint32_t row, uint32_t value)
+{
+    unsigned refusal = row_refusal(r, row);
+    if (refusal == 0)
+        model_row_write(table, row, value);
+    return refusal;
+}
+
+unsigned tested_row_read(const struct model_router *r, const uint32_t table[MODEL_ROWS], uint32_t row, uint32_t *value)
+{
+    unsigned refusal = row_refusal(r, row);
+    *value = refusal ? 0 : table[row];
+    return refusal;
+}
+
+unsigned tested_router_held(const struct model_router *r, uint32_t port, uint32_t held[MODEL_HELD])
+{
+    unsigned refusal = bad_ports(r) ? MODEL_STATE : port > LAST ? MODEL_PORT : 0;
+    if (refusal == 0)
+        model_router_held(r, port, held);
+    else
+        for (unsigned k = 0; k < MODEL_HELD; k++)
+            held[k] = 0;
+    return refusal;
 }

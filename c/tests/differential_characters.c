@@ -31,11 +31,9 @@ static struct model_bits encode(uint32_t kind, uint32_t value)
     struct tally *call = &characters_calls[ENCODE];
     struct model_encoder e;
     struct model_bits bits = {0, 0};
-    struct model_token t = token_of(kind, value);
-    uint32_t state[NEFTOLEK_ENCODER_WORDS], ours[2] = {77, 77}, models[2];
-    uint32_t refusal = encoder_of_words(encoder, &e) ? model_encode_refusal(t) : MODEL_STATE;
-    if (refusal == 0)
-        bits = model_encode(&e, t);
+    uint32_t state[NEFTOLEK_ENCODER_WORDS], ours[2] = {77, 77}, models[2], refusal = MODEL_STATE;
+    if (encoder_of_words(encoder, &e))
+        refusal = tested_encode(&e, token_of(kind, value), &bits);
     models[0] = bits.bits;
     models[1] = bits.count;
     state[0] = refusal == 0 ? e.odd : encoder[0];
@@ -50,13 +48,12 @@ static uint32_t decode(uint32_t bit)
 {
     struct tally *call = &characters_calls[bit > 1 ? TICK : BIT];
     struct model_token report = {NOTHING, 0};
-    uint32_t state[NEFTOLEK_DECODER_WORDS], ours[2] = {77, 77}, models[2];
-    uint32_t refusal = good ? model_decoder_refusal(&model) : MODEL_STATE;
+    uint32_t state[NEFTOLEK_DECODER_WORDS], ours[2] = {77, 77}, models[2], refusal = MODEL_STATE;
     memcpy(state, decoder, sizeof state);
-    if (refusal == 0) {
-        report = bit > 1 ? model_decoder_tick(&model) : model_decoder_bit(&model, bit);
+    if (good)
+        refusal = bit > 1 ? tested_decoder_tick(&model, &report) : tested_decoder_bit(&model, bit, &report);
+    if (refusal == 0)
         words_of_decoder(&model, state);
-    }
     models[0] = report.kind;
     models[1] = report.value;
     if (bit > 1)

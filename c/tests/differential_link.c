@@ -19,7 +19,7 @@ struct tally link_calls[9] = {
     {"link_offer", 1 | 1 << MODEL_STATE | 1 << MODEL_NOTRUN, {0}}};
 
 /* Places past the end of what is lent are compared too. */
-enum { BEYOND = 4, PLACES = 4097 + BEYOND };
+enum { BEYOND = 4, PLACES = NEFTOLEK_LINK_MOST + 1 + BEYOND };
 
 /* One side's end: what it is lent, and what it answered. */
 struct end {
@@ -58,90 +58,79 @@ static uint32_t call_ours(enum call call, struct end *e, struct handed h)
     }
 }
 
-static uint32_t refusal_of(enum call call, const struct model_link *l, const struct model_time *time, struct handed h)
+static uint32_t model_sends(struct end *e, struct model_link *l, struct model_places rx, struct model_places tx)
 {
-    uint32_t lent = model_link_refusal(l, h.rx_len, h.tx_len);
-    switch (call) {
-    case RECEIVE:
-        return model_receive_refusal(l, h.rx_len, h.tx_len, time, token_of(h.a, h.b));
-    case FAULT:
-        return lent ? lent : h.a < PARITY_ERROR || h.a > DISCONNECT ? MODEL_CHAR : 0;
-    case PUT:
-        return model_put_refusal(l, h.tx_len, h.a);
-    case TAKE:
-        return model_take_refusal(l, h.rx_len);
-    case OFFER:
-        return model_offer_refusal(l);
-    default:
-        return lent;
-    }
-}
-
-static void accept_send(struct end *e, struct model_link *l, struct model_places rx, struct model_places tx)
-{
-    struct model_dispatch d = model_link_send(l, rx, tx);
+    struct model_dispatch d;
+    uint32_t refusal = tested_link_send(l, rx, tx, &d);
     e->out[0] = d.discarded;
     e->out[1] = d.sent.kind;
     e->out[2] = d.sent.value;
+    return refusal;
 }
 
-static void accept_receive(struct end *e, struct model_link *l, struct model_places rx, struct model_places tx,
-                           struct model_time *time, struct handed h)
+static uint32_t model_receives(struct end *e, struct model_link *l, struct model_places rx, struct model_places tx,
+                               struct handed h)
 {
-    struct model_receipt r = model_link_receive(l, rx, tx, time, token_of(h.a, h.b));
+    struct model_receipt r = {0, false};
+    struct model_time time;
+    uint32_t refusal = MODEL_STATE;
+    if (time_of_words(e->time, &time))
+        refusal = tested_link_receive(l, rx, tx, &time, token_of(h.a, h.b), &r);
     e->out[0] = r.discarded;
     e->out[1] = r.tick;
-    e->time[0] = time->count;
-    e->time[1] = time->ticked;
+    if (refusal == 0) {
+        e->time[0] = time.count;
+        e->time[1] = time.ticked;
+    }
+    return refusal;
 }
 
-static void accept(enum call call, struct end *e, struct model_link *l, struct model_time *time, struct handed h)
+static uint32_t model_takes(struct end *e, struct model_link *l, struct model_places rx)
+{
+    uint16_t n;
+    uint32_t refusal = tested_link_take(l, rx, &n);
+    e->out[0] = 0;
+    e->out[1] = n;
+    return refusal;
+}
+
+static uint32_t call_tested(enum call call, struct end *e, struct model_link *l, struct handed h)
 {
     struct model_places rx = {e->rx, h.rx_len}, tx = {e->tx, h.tx_len};
     switch (call) {
     case TICK:
-        e->out[0] = model_link_tick(l, rx, tx);
-        break;
+        return tested_link_tick(l, rx, tx, e->out);
     case RECEIVE:
-        accept_receive(e, l, rx, tx, time, h);
-        break;
+        return model_receives(e, l, rx, tx, h);
     case FAULT:
-        e->out[0] = model_link_fault(l, rx, tx, (enum model_kind)h.a);
-        break;
+        return tested_link_fault(l, rx, tx, h.a, e->out);
     case CONTROL:
-        e->out[0] = model_link_control(l, rx, tx, h.a, h.b, h.c);
-        break;
+        return tested_link_control(l, rx, tx, h.a, h.b, h.c, e->out);
     case SEND:
-        accept_send(e, l, rx, tx);
-        break;
+        return model_sends(e, l, rx, tx);
     case RESET:
-        e->out[0] = model_link_reset(l, rx);
-        break;
+        return tested_link_reset(l, rx, tx, e->out);
     case PUT:
-        e->out[0] = model_link_put(l, tx, (uint16_t)h.a);
-        break;
+        return tested_link_put(l, tx, h.a, e->out);
     case TAKE:
-        e->out[1] = model_link_take(l, rx);
-        break;
-    case OFFER:
-        model_link_offer(l, (uint8_t)h.a);
-        break;
+        return model_takes(e, l, rx);
+    default:
+        e->out[0] = 0;
+        return tested_link_offer(l, (uint8_t)h.a);
     }
-    words_of_link(l, e->state);
 }
 
+/* Words that are no state are refused, whatever else there is. */
 static uint32_t call_model(enum call call, struct end *e, struct handed h)
 {
     static const unsigned out_words[] = {1, 2, 1, 1, 3, 1, 1, 2, 1};
     struct model_link l;
-    struct model_time time;
-    bool good_time = time_of_words(e->time, &time);
     uint32_t refusal = MODEL_STATE;
     memset(e->out, 0, out_words[call] * sizeof *e->out);
-    if (link_of_words(e->state, &l) && (good_time || call != RECEIVE))
-        refusal = refusal_of(call, &l, &time, h);
+    if (link_of_words(e->state, &l))
+        refusal = call_tested(call, e, &l, h);
     if (refusal == 0)
-        accept(call, e, &l, &time, h);
+        words_of_link(&l, e->state);
     return refusal;
 }
 
@@ -167,7 +156,7 @@ static enum call any_call(void)
     static const uint8_t coming[] = {TICK, TICK, TICK, TICK, SEND, SEND, RECEIVE, RECEIVE, CONTROL, PUT, TAKE};
     if (one_in(40))
         return (enum call)below(9);
-    return (enum call)(ours.state[0] == RUN ? running[below(sizeof running)] : coming[below(sizeof coming)]);
+    return (enum call)(ours.state[STATE_WORD] == RUN ? running[below(sizeof running)] : coming[below(sizeof coming)]);
 }
 
 /* Numbers for a call: tokens as they would come in this state, and now and then any. */
@@ -178,11 +167,13 @@ static struct handed any_handed(enum call call, uint32_t rx_len, uint32_t tx_len
         h.a = any_word();
         h.b = any_word();
     } else if (call == RECEIVE) {
-        h.a = ours.state[0] == RUN ? 2 + below(3) : ONE_OF(1, 1, 1, 1, ours.state[0] == CONNECTING ? 2 : 1, 1 + below(4));
+        h.a = ours.state[STATE_WORD] == RUN
+                  ? 2 + below(3)
+                  : ONE_OF(1, 1, 1, 1, ours.state[STATE_WORD] == CONNECTING ? 2 : 1, 1 + below(4));
         h.b = h.a == 3 ? any_nchar() : h.a == 4 ? (one_in(2) ? (ours.time[0] + 1) % 64 : below(256)) : 0;
-        if (h.a == 3 && ours.state[8] == 0 && !one_in(10))
+        if (h.a == 3 && ours.state[GIVEN_WORD] == 0 && !one_in(10))
             h.a = 1, h.b = 0;
-        if (h.a == 2 && ours.state[7] > 48 && !one_in(10))
+        if (h.a == 2 && ours.state[HELD_WORD] > 48 && !one_in(10))
             h.a = 1;
     } else if (call == CONTROL) {
         h.a = one_in(10) ? any_word() : 0;
@@ -201,26 +192,29 @@ static uint32_t any_rx_len(void)
     return one_in(4) ? 9 + below(4088) : ONE_OF(9, 9, 10, 16, 17, 18, 33, 56, 57, 64, 65, 100, 4095, 4096);
 }
 
-static uint32_t any_tx_len(void) { return one_in(4) ? 1 + below(4096) : ONE_OF(1, 2, 3, 8, 9, 16, 57, 64, 4095, 4096); }
+static uint32_t any_tx_len(void)
+{
+    return one_in(4) ? 1 + below(NEFTOLEK_LINK_MOST) : ONE_OF(1, 2, 3, 8, 9, 16, 57, 64, 4095, 4096);
+}
 
 /* A record that passes STATE at these sizes, though perhaps no calls lead to it. */
 static void good_record(uint32_t *w, uint32_t rx_len, uint32_t tx_len)
 {
     static const uint32_t limit[6] = {64, 128, 1, 128, 128, 1};
     uint32_t reserved;
-    for (int k = 2; k < 15; k++)
+    for (int k = GOT_NULL_WORD; k <= OFFERED_WORD; k++)
         w[k] = below(2);
-    w[0] = one_in(2) ? RUN : below(6);
-    w[1] = one_in(2) ? limit[w[0]] - 1 : below(limit[w[0]]);
-    w[4] = one_in(8);
-    w[7] = w[0] == RUN ? below(57) : 0;
-    w[8] = w[0] >= CONNECTING ? below(rx_len > 57 ? 57 : rx_len) : 0;
-    w[15] = w[14] ? below(256) : 0;
-    reserved = w[8] || w[9] ? w[8] + 1 : 0;
-    w[16] = below(rx_len);
-    w[17] = one_in(3) ? rx_len - reserved : below(rx_len - reserved + 1);
-    w[18] = below(tx_len);
-    w[19] = one_in(3) ? tx_len : below(tx_len + 1);
+    w[STATE_WORD] = one_in(2) ? RUN : below(6);
+    w[TIMER_WORD] = one_in(2) ? limit[w[STATE_WORD]] - 1 : below(limit[w[STATE_WORD]]);
+    w[DISABLED_WORD] = one_in(8);
+    w[HELD_WORD] = w[STATE_WORD] == RUN ? below(57) : 0;
+    w[GIVEN_WORD] = w[STATE_WORD] >= CONNECTING ? below(rx_len > 57 ? 57 : rx_len) : 0;
+    w[CODE_WORD] = w[OFFERED_WORD] ? below(256) : 0;
+    reserved = w[GIVEN_WORD] || w[STORED_WORD] ? w[GIVEN_WORD] + 1 : 0;
+    w[RX_FRONT_WORD] = below(rx_len);
+    w[RX_LENGTH_WORD] = one_in(3) ? rx_len - reserved : below(rx_len - reserved + 1);
+    w[TX_FRONT_WORD] = below(tx_len);
+    w[TX_LENGTH_WORD] = one_in(3) ? tx_len : below(tx_len + 1);
 }
 
 static void begin_end(uint32_t rx_len, uint32_t tx_len)
@@ -242,14 +236,14 @@ static void begin_end(uint32_t rx_len, uint32_t tx_len)
 static void edge_stores(uint32_t rx_len, uint32_t tx_len)
 {
     uint32_t *w = ours.state;
-    w[16] = rx_len - below(2);
-    w[17] = rx_len + 1 - below(3);
-    w[18] = tx_len - below(2);
-    w[19] = tx_len + 1 - below(3);
+    w[RX_FRONT_WORD] = rx_len - below(2);
+    w[RX_LENGTH_WORD] = rx_len + 1 - below(3);
+    w[TX_FRONT_WORD] = tx_len - below(2);
+    w[TX_LENGTH_WORD] = tx_len + 1 - below(3);
     if (one_in(2))
-        w[16] = w[18] = 0;
+        w[RX_FRONT_WORD] = w[TX_FRONT_WORD] = 0;
     if (one_in(2))
-        w[8] = 0;
+        w[GIVEN_WORD] = 0;
 }
 
 /* A call on damaged words or with other sizes; the end is then as it was before, unless a call that tests all of it

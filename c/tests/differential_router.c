@@ -16,7 +16,12 @@ struct tally router_calls[6] = {
     {"router_still_held", 1 | 1 << MODEL_STATE | 1 << MODEL_PORT, {0}}};
 
 /* Places past the end of the area are compared too. */
-enum { BEYOND = 4, MOST = 22 * 1025 + BEYOND, OUT = 11 };
+enum {
+    STORES = NEFTOLEK_ROUTER_STORES,
+    BEYOND = 4,
+    MOST = STORES * (NEFTOLEK_ROUTER_MOST + 1) + BEYOND,
+    OUT = MODEL_HELD
+};
 
 struct side {
     uint32_t state[NEFTOLEK_ROUTER_WORDS], table[NEFTOLEK_TABLE_ROWS], out[OUT];
@@ -57,58 +62,80 @@ static uint32_t call_ours(enum call call, struct side *s, struct handed h)
     }
 }
 
-static uint32_t refusal_of(enum call call, struct handed h)
+/* A run of the model that is not the plain one, on a copy of what the plain one is handed. */
+typedef unsigned run(struct model_router *, struct model_places, const uint32_t *, uint32_t, struct model_ran *);
+
+struct left {
+    uint32_t refusal, state[NEFTOLEK_ROUTER_WORDS];
+    struct model_ran ran;
+    uint16_t area[MOST];
+};
+
+static void runs_on_copy(run *one, struct left *left, struct model_places area, const uint32_t *table, uint32_t limit)
 {
-    switch (call) {
-    case PUT:
-        return model_router_put_refusal(&router, h.area_len, h.a, h.b);
-    case TAKE:
-        return model_router_take_refusal(&router, h.area_len, h.a);
-    case RUN_ROUNDS:
-        return model_router_run_refusal(&router, h.area_len, h.a);
-    case STILL_HELD:
-        return model_held_refusal(&router, h.a);
-    default:
-        return model_row_refusal(&router, h.a);
-    }
+    struct model_router copy = router;
+    struct model_places places = {left->area, area.size};
+    memcpy(left->area, area.at, area.size * sizeof *area.at);
+    left->refusal = one(&copy, places, table, limit, &left->ran);
+    words_of_router(&copy, left->state);
 }
 
-static void accept(enum call call, struct side *s, struct handed h)
+/* All runs of the model, from the same state: they have to leave and answer the same. */
+static uint32_t model_runs(struct side *s, struct model_places area, uint32_t limit)
+{
+    static struct left plain, sensible, sets;
+    const struct tally *t = &router_calls[RUN_ROUNDS];
+    size_t bytes = offsetof(struct left, area) + area.size * sizeof *area.at;
+    uint32_t refusal;
+    runs_on_copy(tested_router_run, &plain, area, s->table, limit);
+    runs_on_copy(tested_sensible_run, &sensible, area, s->table, limit);
+    runs_on_copy(tested_sets_run, &sets, area, s->table, limit);
+    compare(t, "the sensible model", &sensible, &plain, bytes);
+    compare(t, "the model with sets", &sets, &plain, bytes);
+    refusal = tested_router_run(&router, area, s->table, limit, &plain.ran);
+    s->out[0] = plain.ran.rounds;
+    s->out[1] = plain.ran.moved;
+    s->out[2] = plain.ran.errors;
+    return refusal;
+}
+
+static uint32_t model_takes(struct side *s, struct model_places area, uint32_t port)
+{
+    uint16_t n;
+    uint32_t refusal = tested_router_take(&router, area, port, &n);
+    s->out[0] = n;
+    return refusal;
+}
+
+static uint32_t call_tested(enum call call, struct side *s, struct handed h)
 {
     struct model_places area = {s->area, h.area_len};
-    struct model_ran ran;
     switch (call) {
     case PUT:
-        model_router_put(&router, area, h.a, (uint16_t)h.b);
-        break;
+        return tested_router_put(&router, area, h.a, h.b);
     case TAKE:
-        s->out[0] = model_router_take(&router, area, h.a);
-        break;
+        return model_takes(s, area, h.a);
     case RUN_ROUNDS:
-        ran = model_router_run(&router, area, s->table, h.a);
-        s->out[0] = ran.rounds;
-        s->out[1] = ran.moved;
-        s->out[2] = ran.errors;
-        break;
+        return model_runs(s, area, h.a);
     case WRITE_ROW:
-        model_row_write(s->table, h.a, h.b);
-        break;
+        return tested_row_write(&router, s->table, h.a, h.b);
     case READ_ROW:
-        s->out[0] = s->table[h.a];
-        break;
+        return tested_row_read(&router, s->table, h.a, s->out);
     default:
-        model_router_held(&router, h.a, s->out);
+        return tested_router_held(&router, h.a, s->out);
     }
-    words_of_router(&router, s->state);
 }
 
+/* Words that are no state are refused, whatever else there is. */
 static uint32_t call_model(enum call call, struct side *s, struct handed h)
 {
     static const unsigned out_words[] = {0, 1, 3, 0, 1, OUT};
-    uint32_t refusal = good ? refusal_of(call, h) : MODEL_STATE;
+    uint32_t refusal = MODEL_STATE;
     memset(s->out, 0, out_words[call] * sizeof *s->out);
+    if (good)
+        refusal = call_tested(call, s, h);
     if (refusal == 0)
-        accept(call, s, h);
+        words_of_router(&router, s->state);
     return refusal;
 }
 
@@ -131,7 +158,7 @@ static uint32_t make(enum call call, struct handed h)
 static uint32_t any_router_nchar(void)
 {
     uint32_t r = below(10);
-    return r < 4 ? below(11) : r == 4 ? 11 + below(21) : r < 8 ? 32 + below(8) : any_nchar();
+    return r < 4 ? below(MODEL_PORTS) : r == 4 ? 11 + below(21) : r < 8 ? 32 + below(8) : any_nchar();
 }
 
 static enum call any_call(void)
@@ -143,7 +170,7 @@ static enum call any_call(void)
 /* Rows 32 to 39 are the ones that packets use. */
 static uint32_t any_row_value(void)
 {
-    uint32_t ports = one_in(3) ? 1u << below(11) : any_word();
+    uint32_t ports = one_in(3) ? 1u << below(MODEL_PORTS) : any_word();
     uint32_t marks = one_in(20) ? 4 : below(4); /* invalid; or high priority, deletes its header */
     return one_in(10) ? any_word() : (ports & 0x1fffffff) | marks << 29;
 }
@@ -155,7 +182,7 @@ static struct handed any_handed(enum call call, uint32_t area_len)
     case PUT:
     case TAKE:
     case STILL_HELD:
-        h.a = one_in(200) ? any_word() : below(11);
+        h.a = one_in(200) ? any_word() : below(MODEL_PORTS);
         h.b = any_router_nchar();
         break;
     case RUN_ROUNDS:
@@ -204,7 +231,7 @@ static void begin_router(uint32_t places)
     }
     for (int row = 0; row < 40; row++) /* rows 0 to 31 are never read */
         ours.table[row] = any_row_value();
-    for (uint32_t k = 0; k < 22 * places + BEYOND; k++)
+    for (uint32_t k = 0; k < STORES * places + BEYOND; k++)
         ours.area[k] = (uint16_t)any_router_nchar();
     models = ours;
     take_words();
@@ -219,11 +246,11 @@ static void damaged_call(uint32_t area_len)
     struct handed h = any_handed(call, area_len);
     memcpy(state, ours.state, sizeof state);
     if (one_in(4))
-        h.area_len = one_in(2) ? area_len - 1 - below(22) : one_in(2) ? 22 * 1025 : below(22 * 12);
+        h.area_len = one_in(2) ? area_len - 1 - below(STORES) : one_in(2) ? MOST - BEYOND : below(STORES * 12);
     else
         spoil(ours.state, NEFTOLEK_ROUTER_WORDS);
     if (one_in(3)) {
-        uint32_t which = below(66);
+        uint32_t which = below(IN_STORE_WORDS);
         ours.state[which] = below(12);
     }
     take_words();
@@ -239,8 +266,8 @@ void router_episode(void)
     begin_router(places);
     for (int k = 0; k < 200; k++) {
         enum call call = any_call();
-        make(call, any_handed(call, 22 * places));
+        make(call, any_handed(call, STORES * places));
         if (one_in(20))
-            damaged_call(22 * places);
+            damaged_call(STORES * places);
     }
 }

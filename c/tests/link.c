@@ -1,11 +1,6 @@
 /* Document 01's cases of the link end, through the C interface. */
 #include "common.h"
-#include "neftolek.h"
-
-enum { ERROR_RESET, ERROR_WAIT, READY, STARTED, CONNECTING, RUN };
-
-/* The words that the cases look at. */
-enum { STATE = 0, HELD = 7, GIVEN = 8, RX_LENGTH = 17, TX_LENGTH = 19 };
+#include "words.h"
 
 struct end {
     uint32_t state[NEFTOLEK_LINK_WORDS], time[NEFTOLEK_TIME_WORDS], out[3];
@@ -71,15 +66,15 @@ static void connecting(struct end *e, size_t rx_len)
     control(e, 0, 1, 0);
     receives(e, NEFTOLEK_NULL, 0);
     sends(e, NEFTOLEK_NULL, 0);
-    SAME(e->state[STATE], CONNECTING);
+    SAME(e->state[STATE_WORD], CONNECTING);
 }
 
 static void running(struct end *e, size_t rx_len)
 {
     connecting(e, rx_len);
     receives(e, NEFTOLEK_FCT, 0);
-    SAME(e->state[STATE], RUN);
-    SAME(e->state[HELD], 8);
+    SAME(e->state[STATE_WORD], RUN);
+    SAME(e->state[HELD_WORD], 8);
 }
 
 /* "Tick 63: ErrorReset; 64: ErrorWait; 192: Ready; with LinkStart, 193: Started." */
@@ -89,17 +84,17 @@ static void tick_case(void)
     fresh(&e, 9);
     control(&e, 0, 1, 0);
     ticks(&e, 63);
-    SAME(e.state[STATE], ERROR_RESET);
+    SAME(e.state[STATE_WORD], ERROR_RESET);
     ticks(&e, 1);
-    SAME(e.state[STATE], ERROR_WAIT);
+    SAME(e.state[STATE_WORD], ERROR_WAIT);
     ticks(&e, 127);
-    SAME(e.state[STATE], ERROR_WAIT);
+    SAME(e.state[STATE_WORD], ERROR_WAIT);
     ticks(&e, 1);
-    SAME(e.state[STATE], READY);
+    SAME(e.state[STATE_WORD], READY);
     ticks(&e, 1);
-    SAME(e.state[STATE], STARTED);
+    SAME(e.state[STATE_WORD], STARTED);
     ticks(&e, 128);
-    SAME(e.state[STATE], ERROR_RESET);
+    SAME(e.state[STATE_WORD], ERROR_RESET);
 }
 
 /* "Credit held 48 and FCT: 56. Held 49: credit error." */
@@ -107,14 +102,14 @@ static void held_case(void)
 {
     struct end e;
     running(&e, 9);
-    e.state[HELD] = 48;
+    e.state[HELD_WORD] = 48;
     receives(&e, NEFTOLEK_FCT, 0);
-    SAME(e.state[HELD], 56);
-    SAME(e.state[STATE], RUN);
-    e.state[HELD] = 49;
+    SAME(e.state[HELD_WORD], 56);
+    SAME(e.state[STATE_WORD], RUN);
+    e.state[HELD_WORD] = 49;
     receives(&e, NEFTOLEK_FCT, 0);
-    SAME(e.state[STATE], ERROR_RESET);
-    SAME(e.state[HELD], 0);
+    SAME(e.state[STATE_WORD], ERROR_RESET);
+    SAME(e.state[HELD_WORD], 0);
 }
 
 /* "Given out 48, free 57: FCT may go; free 56: not. Given out 49: never." */
@@ -122,14 +117,14 @@ static void given_case(void)
 {
     struct end e;
     running(&e, 57);
-    e.state[GIVEN] = 48;
+    e.state[GIVEN_WORD] = 48;
     sends(&e, NEFTOLEK_FCT, 0);
-    SAME(e.state[GIVEN], 56);
+    SAME(e.state[GIVEN_WORD], 56);
     running(&e, 56);
-    e.state[GIVEN] = 48;
+    e.state[GIVEN_WORD] = 48;
     sends(&e, NEFTOLEK_NULL, 0);
     running(&e, 64);
-    e.state[GIVEN] = 49;
+    e.state[GIVEN_WORD] = 49;
     sends(&e, NEFTOLEK_NULL, 0);
 }
 
@@ -138,13 +133,13 @@ static void nchar_case(void)
 {
     struct end e;
     running(&e, 9);
-    e.state[GIVEN] = 1;
+    e.state[GIVEN_WORD] = 1;
     receives(&e, NEFTOLEK_NCHAR, 65);
-    SAME(e.state[STATE], RUN);
-    SAME(e.state[GIVEN], 0);
-    SAME(e.state[RX_LENGTH], 1);
+    SAME(e.state[STATE_WORD], RUN);
+    SAME(e.state[GIVEN_WORD], 0);
+    SAME(e.state[RX_LENGTH_WORD], 1);
     receives(&e, NEFTOLEK_NCHAR, 66);
-    SAME(e.state[STATE], ERROR_RESET);
+    SAME(e.state[STATE_WORD], ERROR_RESET);
     takes(&e, 65);
     takes(&e, NEFTOLEK_EEP);
     SAME(neftolek_link_take(e.state, e.rx, e.rx_len, e.out), NEFTOLEK_EMPTY);
@@ -181,18 +176,18 @@ static void cut_packet(void)
 {
     struct end e;
     running(&e, 9);
-    e.state[GIVEN] = 1; /* no FCT may go, so that N-Chars do */
+    e.state[GIVEN_WORD] = 1; /* no FCT may go, so that N-Chars do */
     puts_one(&e, 65, 0);
     puts_one(&e, 66, 0);
     sends(&e, NEFTOLEK_NCHAR, 65);
     fault(&e, NEFTOLEK_PARITY);
-    SAME(e.state[STATE], ERROR_RESET);
+    SAME(e.state[STATE_WORD], ERROR_RESET);
     SAME(e.out[0], 1);
     puts_one(&e, 67, 1);
     puts_one(&e, NEFTOLEK_EOP, 1);
     puts_one(&e, 1, 0);
     puts_one(&e, NEFTOLEK_EOP, 0);
-    SAME(e.state[TX_LENGTH], 2);
+    SAME(e.state[TX_LENGTH_WORD], 2);
 }
 
 /* Reset behind a packet of which the host has taken and put a part. */
@@ -200,7 +195,7 @@ static void reset_case(void)
 {
     struct end e;
     running(&e, 9);
-    e.state[GIVEN] = 8;
+    e.state[GIVEN_WORD] = 8;
     receives(&e, NEFTOLEK_NCHAR, 65);
     receives(&e, NEFTOLEK_NCHAR, 66);
     takes(&e, 65);
@@ -208,7 +203,7 @@ static void reset_case(void)
     puts_one(&e, 2, 0);
     SAME(neftolek_link_reset(e.state, e.rx, e.rx_len, e.tx, e.tx_len, e.out), 0);
     SAME(e.out[0], 2);
-    SAME(e.state[STATE], ERROR_RESET);
+    SAME(e.state[STATE_WORD], ERROR_RESET);
     takes(&e, NEFTOLEK_EEP);
     puts_one(&e, 3, 1);
     puts_one(&e, NEFTOLEK_EOP, 1);

@@ -2,7 +2,7 @@
 #include "common.h"
 #include "neftolek.h"
 
-enum { RX = 16, TX = 8, MOST = 4097 };
+enum { RX = 16, TX = 8, MOST = NEFTOLEK_LINK_MOST + 1 };
 
 static uint16_t rx[MOST], tx[MOST], rx_before[MOST], tx_before[MOST];
 
@@ -71,94 +71,94 @@ static const struct {
     } changes[5];
 } rows[] = {
     {ALL, 0, {{END, 0}}},
-    /* 1 STATE: words that are no state */
-    {ALL, 1, {{STATE, 6}}},
-    {ALL, 1, {{STATE, 0xffffffff}}},
-    {ALL, 1, {{TIMER, 256}}},
-    {ALL, 1, {{GOT_NULL, 2}}},
-    {ALL, 1, {{NULL_SENT, 2}}},
-    {ALL, 1, {{DISABLED, 2}}},
-    {ALL, 1, {{START, 2}}},
-    {ALL, 1, {{AUTOSTART, 2}}},
-    {ALL, 1, {{STORED, 2}}},
-    {ALL, 1, {{SENT, 2}}},
-    {ALL, 1, {{TAKEN, 2}}},
-    {ALL, 1, {{WAS_PUT, 2}}},
-    {ALL, 1, {{DISCARDING, 2}}},
-    {ALL, 1, {{OFFERED, 2}}},
-    {ALL, 1, {{CODE, 5}}}, /* a value where no Time-Code waits */
-    {ALL, 1, {{OFFERED, 1}, {CODE, 256}}},
+    /* STATE: words that are no state */
+    {ALL, NEFTOLEK_STATE, {{STATE, 6}}},
+    {ALL, NEFTOLEK_STATE, {{STATE, 0xffffffff}}},
+    {ALL, NEFTOLEK_STATE, {{TIMER, 256}}},
+    {ALL, NEFTOLEK_STATE, {{GOT_NULL, 2}}},
+    {ALL, NEFTOLEK_STATE, {{NULL_SENT, 2}}},
+    {ALL, NEFTOLEK_STATE, {{DISABLED, 2}}},
+    {ALL, NEFTOLEK_STATE, {{START, 2}}},
+    {ALL, NEFTOLEK_STATE, {{AUTOSTART, 2}}},
+    {ALL, NEFTOLEK_STATE, {{STORED, 2}}},
+    {ALL, NEFTOLEK_STATE, {{SENT, 2}}},
+    {ALL, NEFTOLEK_STATE, {{TAKEN, 2}}},
+    {ALL, NEFTOLEK_STATE, {{WAS_PUT, 2}}},
+    {ALL, NEFTOLEK_STATE, {{DISCARDING, 2}}},
+    {ALL, NEFTOLEK_STATE, {{OFFERED, 2}}},
+    {ALL, NEFTOLEK_STATE, {{CODE, 5}}}, /* a value where no Time-Code waits */
+    {ALL, NEFTOLEK_STATE, {{OFFERED, 1}, {CODE, 256}}},
     /* either credit above 56; credit outside its states */
-    {ALL, 1, {{HELD, 57}}},
+    {ALL, NEFTOLEK_STATE, {{HELD, 57}}},
     {ALL & ~LENT_RX, 0, {{GIVEN, 56}}}, /* put and offer do not look at the receive store */
-    {ALL, 1, {{GIVEN, 57}}},
-    {ALL, 1, {{STATE, 4}}}, /* held in Connecting */
+    {ALL, NEFTOLEK_STATE, {{GIVEN, 57}}},
+    {ALL, NEFTOLEK_STATE, {{STATE, 4}}}, /* held in Connecting */
     {ALL & ~(1 << OFFER), 0, {{STATE, 4}, {HELD, 0}}},
-    {ALL, 1, {{STATE, 3}, {HELD, 0}}}, /* given out in Started */
+    {ALL, NEFTOLEK_STATE, {{STATE, 3}, {HELD, 0}}}, /* given out in Started */
     {ALL & ~(1 << OFFER), 0, {{STATE, 3}, {HELD, 0}, {GIVEN, 0}}},
     /* timer at or past its state's limit */
     {ALL & ~(1 << OFFER), 0, {{STATE, 0}, {TIMER, 63}, {HELD, 0}, {GIVEN, 0}}},
-    {ALL, 1, {{STATE, 0}, {TIMER, 64}, {HELD, 0}, {GIVEN, 0}}},
+    {ALL, NEFTOLEK_STATE, {{STATE, 0}, {TIMER, 64}, {HELD, 0}, {GIVEN, 0}}},
     {ALL & ~(1 << OFFER), 0, {{STATE, 1}, {TIMER, 127}, {HELD, 0}, {GIVEN, 0}}},
-    {ALL, 1, {{STATE, 1}, {TIMER, 128}, {HELD, 0}, {GIVEN, 0}}},
-    {ALL, 1, {{STATE, 2}, {TIMER, 1}, {HELD, 0}, {GIVEN, 0}}},
-    {ALL, 1, {{STATE, 3}, {TIMER, 128}, {HELD, 0}, {GIVEN, 0}}},
-    {ALL, 1, {{STATE, 4}, {TIMER, 128}, {HELD, 0}, {GIVEN, 0}}},
-    {ALL, 1, {{TIMER, 1}}}, /* Run */
+    {ALL, NEFTOLEK_STATE, {{STATE, 1}, {TIMER, 128}, {HELD, 0}, {GIVEN, 0}}},
+    {ALL, NEFTOLEK_STATE, {{STATE, 2}, {TIMER, 1}, {HELD, 0}, {GIVEN, 0}}},
+    {ALL, NEFTOLEK_STATE, {{STATE, 3}, {TIMER, 128}, {HELD, 0}, {GIVEN, 0}}},
+    {ALL, NEFTOLEK_STATE, {{STATE, 4}, {TIMER, 128}, {HELD, 0}, {GIVEN, 0}}},
+    {ALL, NEFTOLEK_STATE, {{TIMER, 1}}}, /* Run */
     /* time count above 63 */
     {1 << RECEIVE, 0, {{TIME_COUNT, 63}}},
-    {1 << RECEIVE, 1, {{TIME_COUNT, 64}}},
-    {1 << RECEIVE, 1, {{TIME_COUNT, 256}}},
-    {1 << RECEIVE, 1, {{TIME_TICKED, 2}}},
-    {1 << RECEIVE, 1, {{TIME_COUNT, 64}, {RX_LEN, 8}}},
-    /* 2 STORE, behind STATE tests that need no size and before those that do */
-    {LENT_RX, 2, {{RX_LEN, 8}, {RX_FRONT, 9}}},
-    {LENT_RX, 2, {{RX_LEN, 0}}},
-    {LENT_RX, 0, {{RX_LEN, 4096}}},
-    {LENT_RX, 2, {{RX_LEN, 4097}}},
-    {LENT_TX, 2, {{TX_LEN, 0}}},
-    {LENT_TX, 0, {{TX_LEN, 4096}}},
-    {LENT_TX, 2, {{TX_LEN, 4097}, {TX_FRONT, 5000}}},
-    {LENT_RX, 1, {{RX_LEN, 8}, {GIVEN, 57}}},
-    {LENT_RX, 2, {{RX_LEN, 8}, {GIVEN, 9}}},
-    {LENT_RX, 1, {{RX_LEN, 9}, {GIVEN, 9}, {RX_LENGTH, 0}}},
-    /* 1 STATE: tests that need a size */
-    {LENT_RX, 1, {{RX_FRONT, RX}}},
-    {LENT_RX, 1, {{RX_FRONT, 0xffffffff}}},
-    {LENT_RX, 1, {{RX_LENGTH, RX + 1}, {GIVEN, 0}, {STORED, 0}}},
+    {1 << RECEIVE, NEFTOLEK_STATE, {{TIME_COUNT, 64}}},
+    {1 << RECEIVE, NEFTOLEK_STATE, {{TIME_COUNT, 256}}},
+    {1 << RECEIVE, NEFTOLEK_STATE, {{TIME_TICKED, 2}}},
+    {1 << RECEIVE, NEFTOLEK_STATE, {{TIME_COUNT, 64}, {RX_LEN, 8}}},
+    /* STORE, behind STATE tests that need no size and before those that do */
+    {LENT_RX, NEFTOLEK_STORE, {{RX_LEN, 8}, {RX_FRONT, 9}}},
+    {LENT_RX, NEFTOLEK_STORE, {{RX_LEN, 0}}},
+    {LENT_RX, 0, {{RX_LEN, NEFTOLEK_LINK_MOST}}},
+    {LENT_RX, NEFTOLEK_STORE, {{RX_LEN, NEFTOLEK_LINK_MOST + 1}}},
+    {LENT_TX, NEFTOLEK_STORE, {{TX_LEN, 0}}},
+    {LENT_TX, 0, {{TX_LEN, NEFTOLEK_LINK_MOST}}},
+    {LENT_TX, NEFTOLEK_STORE, {{TX_LEN, NEFTOLEK_LINK_MOST + 1}, {TX_FRONT, 5000}}},
+    {LENT_RX, NEFTOLEK_STATE, {{RX_LEN, 8}, {GIVEN, 57}}},
+    {LENT_RX, NEFTOLEK_STORE, {{RX_LEN, 8}, {GIVEN, 9}}},
+    {LENT_RX, NEFTOLEK_STATE, {{RX_LEN, 9}, {GIVEN, 9}, {RX_LENGTH, 0}}},
+    /* STATE: tests that need a size */
+    {LENT_RX, NEFTOLEK_STATE, {{RX_FRONT, RX}}},
+    {LENT_RX, NEFTOLEK_STATE, {{RX_FRONT, 0xffffffff}}},
+    {LENT_RX, NEFTOLEK_STATE, {{RX_LENGTH, RX + 1}, {GIVEN, 0}, {STORED, 0}}},
     {LENT_RX, 0, {{RX_LENGTH, RX}, {GIVEN, 0}, {STORED, 0}}},
-    {LENT_RX, 1, {{RX_LENGTH, RX}, {GIVEN, 0}}}, /* last stored data, and no place for an EEP */
+    {LENT_RX, NEFTOLEK_STATE, {{RX_LENGTH, RX}, {GIVEN, 0}}}, /* last stored data, and no place for an EEP */
     {LENT_RX, 0, {{RX_LENGTH, RX - 9}}},
-    {LENT_RX, 1, {{RX_LENGTH, RX - 8}}}, /* given out 8 wants 9 places */
-    {LENT_RX, 1, {{RX_LENGTH, RX - 8}, {STORED, 0}}},
-    {LENT_TX, 1, {{TX_FRONT, TX}}},
-    {LENT_TX, 1, {{TX_LENGTH, TX + 1}}},
-    {LENT_TX, 1, {{TX_LENGTH, 0xffffffff}}},
+    {LENT_RX, NEFTOLEK_STATE, {{RX_LENGTH, RX - 8}}}, /* given out 8 wants 9 places */
+    {LENT_RX, NEFTOLEK_STATE, {{RX_LENGTH, RX - 8}, {STORED, 0}}},
+    {LENT_TX, NEFTOLEK_STATE, {{TX_FRONT, TX}}},
+    {LENT_TX, NEFTOLEK_STATE, {{TX_LENGTH, TX + 1}}},
+    {LENT_TX, NEFTOLEK_STATE, {{TX_LENGTH, 0xffffffff}}},
     {1 << PUT, 0, {{RX_FRONT, 5000}, {RX_LENGTH, 5000}}}, /* put is not lent the receive store */
     {1 << TAKE, 0, {{TX_FRONT, 5000}, {TX_LENGTH, 5000}}},
-    /* 5 CHAR */
+    /* CHAR */
     {1 << PUT, 0, {{NCHAR, 257}}},
-    {1 << PUT, 5, {{NCHAR, 258}}},
-    {1 << PUT, 5, {{NCHAR, 65536}}}, /* not cut down to 16 bits */
-    {1 << PUT, 5, {{NCHAR, 258}, {TX_LENGTH, TX}}}, /* before FULL */
+    {1 << PUT, NEFTOLEK_CHAR, {{NCHAR, 258}}},
+    {1 << PUT, NEFTOLEK_CHAR, {{NCHAR, 65536}}}, /* not cut down to 16 bits */
+    {1 << PUT, NEFTOLEK_CHAR, {{NCHAR, 258}, {TX_LENGTH, TX}}}, /* before FULL */
     {1 << RECEIVE, 0, {{KIND, 3}, {VALUE, 257}}},
-    {1 << RECEIVE, 5, {{KIND, 3}, {VALUE, 258}}},
-    {1 << RECEIVE, 5, {{KIND, 3}, {VALUE, 65536}}},
-    {1 << RECEIVE, 5, {{KIND, 4}, {VALUE, 256}}},
-    {1 << RECEIVE, 5, {{KIND, 0}}},
-    {1 << RECEIVE, 5, {{KIND, 5}}},
-    {1 << RECEIVE, 5, {{KIND, 257}}},
-    {1 << RECEIVE, 5, {{KIND, 1}, {VALUE, 1}}},
-    {1 << RECEIVE, 1, {{KIND, 5}, {RX_FRONT, RX}}},
+    {1 << RECEIVE, NEFTOLEK_CHAR, {{KIND, 3}, {VALUE, 258}}},
+    {1 << RECEIVE, NEFTOLEK_CHAR, {{KIND, 3}, {VALUE, 65536}}},
+    {1 << RECEIVE, NEFTOLEK_CHAR, {{KIND, 4}, {VALUE, 256}}},
+    {1 << RECEIVE, NEFTOLEK_CHAR, {{KIND, 0}}},
+    {1 << RECEIVE, NEFTOLEK_CHAR, {{KIND, 5}}},
+    {1 << RECEIVE, NEFTOLEK_CHAR, {{KIND, 257}}},
+    {1 << RECEIVE, NEFTOLEK_CHAR, {{KIND, 1}, {VALUE, 1}}},
+    {1 << RECEIVE, NEFTOLEK_STATE, {{KIND, 5}, {RX_FRONT, RX}}},
     {1 << FAULT, 0, {{FAULT_KIND, 7}}},
-    {1 << FAULT, 5, {{FAULT_KIND, 4}}},
-    {1 << FAULT, 5, {{FAULT_KIND, 8}}},
-    {1 << FAULT, 2, {{FAULT_KIND, 8}, {RX_LEN, 8}}},
-    /* 8 NOTRUN, 9 EMPTY, 10 FULL */
-    {1 << OFFER, 8, {{STATE, 4}, {HELD, 0}}},
-    {1 << OFFER, 8, {{STATE, 0}, {HELD, 0}, {GIVEN, 0}}},
-    {1 << TAKE, 9, {{RX_LENGTH, 0}}},
-    {1 << PUT, 10, {{TX_LENGTH, TX}}},
+    {1 << FAULT, NEFTOLEK_CHAR, {{FAULT_KIND, 4}}},
+    {1 << FAULT, NEFTOLEK_CHAR, {{FAULT_KIND, 8}}},
+    {1 << FAULT, NEFTOLEK_STORE, {{FAULT_KIND, 8}, {RX_LEN, 8}}},
+    /* NOTRUN, EMPTY, FULL */
+    {1 << OFFER, NEFTOLEK_NOTRUN, {{STATE, 4}, {HELD, 0}}},
+    {1 << OFFER, NEFTOLEK_NOTRUN, {{STATE, 0}, {HELD, 0}, {GIVEN, 0}}},
+    {1 << TAKE, NEFTOLEK_EMPTY, {{RX_LENGTH, 0}}},
+    {1 << PUT, NEFTOLEK_FULL, {{TX_LENGTH, TX}}},
     {1 << PUT, 0, {{TX_LENGTH, TX}, {DISCARDING, 1}}}}; /* a full store that is discarding */
 
 static void refuses(unsigned row, enum call call, const uint32_t *before)

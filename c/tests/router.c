@@ -2,10 +2,10 @@
 #include "common.h"
 #include "neftolek.h"
 
-enum { PLACES = 9, AREA = NEFTOLEK_ROUTER_STORES * PLACES };
+enum { HELD = 11, PLACES = 9, AREA = NEFTOLEK_ROUTER_STORES * PLACES };
 
 struct router {
-    uint32_t state[NEFTOLEK_ROUTER_WORDS], table[NEFTOLEK_TABLE_ROWS], out[11];
+    uint32_t state[NEFTOLEK_ROUTER_WORDS], table[NEFTOLEK_TABLE_ROWS], out[HELD];
     uint16_t area[AREA];
 };
 
@@ -124,7 +124,7 @@ static void full_output(void)
     runs(&r, 10000, 2, 1, 0);
 }
 
-static void holds(struct router *r, uint32_t port, const uint32_t held[11])
+static void holds(struct router *r, uint32_t port, const uint32_t held[HELD])
 {
     SAME(neftolek_router_still_held(r->state, port, r->out), 0);
     SAME_BYTES(r->out, held, sizeof r->out);
@@ -133,10 +133,10 @@ static void holds(struct router *r, uint32_t port, const uint32_t held[11])
 /* A stops in the middle of a packet from port 1 to port 3, and B's packet from port 2 waits: who holds what. */
 static void still_held(void)
 {
-    static const uint32_t routed[11] = {2, 0, 0, 3, 0, 0, 0, 0, 0, 1 << 2, 0};
-    static const uint32_t waiting[11] = {1, 1 << 3, 0, 0, 2, 0, 0, 0, 0, 1 << 2, 0};
-    static const uint32_t owned[11] = {0, 0, 0, 0, 0, 1, 1, 1, 1 << 2, 1 << 2, 0};
-    static const uint32_t nothing[11] = {0, 0, 0, 0, 0, 0, 0, 0, 0, 1 << 2, 1};
+    static const uint32_t routed[HELD] = {2, 0, 0, 3, 0, 0, 0, 0, 0, 1 << 2, 0};
+    static const uint32_t waiting[HELD] = {1, 1 << 3, 0, 0, 2, 0, 0, 0, 0, 1 << 2, 0};
+    static const uint32_t owned[HELD] = {0, 0, 0, 0, 0, 1, 1, 1, 1 << 2, 1 << 2, 0};
+    static const uint32_t nothing[HELD] = {0, 0, 0, 0, 0, 0, 0, 0, 0, 1 << 2, 1};
     struct router r;
     fresh(&r);
     SAME(neftolek_router_put(r.state, r.area, AREA, 1, 3), 0);

@@ -145,28 +145,28 @@ void words_of_link(const struct model_link *l, uint32_t words[NEFTOLEK_LINK_WORD
 bool link_of_words(const uint32_t words[NEFTOLEK_LINK_WORDS], struct model_link *l)
 {
     uint32_t again[NEFTOLEK_LINK_WORDS];
-    l->state = (uint8_t)words[0];
-    l->timer = (uint8_t)words[1];
-    l->got_null = words[2];
-    l->null_sent = words[3];
-    l->disabled = words[4];
-    l->start = words[5];
-    l->autostart = words[6];
-    l->held = (uint8_t)words[7];
-    l->given = (uint8_t)words[8];
-    l->stored_data = words[9];
-    l->sent_data = words[10];
-    l->taken_data = words[11];
-    l->put_data = words[12];
-    l->discarding = words[13];
-    l->offered = words[14];
-    l->code = (uint8_t)words[15];
-    l->rx.front = words[16];
-    l->rx.length = words[17];
-    l->tx.front = words[18];
-    l->tx.length = words[19];
+    l->state = (uint8_t)words[STATE_WORD];
+    l->timer = (uint8_t)words[TIMER_WORD];
+    l->got_null = words[GOT_NULL_WORD];
+    l->null_sent = words[NULL_SENT_WORD];
+    l->disabled = words[DISABLED_WORD];
+    l->start = words[START_WORD];
+    l->autostart = words[AUTOSTART_WORD];
+    l->held = (uint8_t)words[HELD_WORD];
+    l->given = (uint8_t)words[GIVEN_WORD];
+    l->stored_data = words[STORED_WORD];
+    l->sent_data = words[SENT_WORD];
+    l->taken_data = words[TAKEN_WORD];
+    l->put_data = words[PUT_WORD];
+    l->discarding = words[DISCARDING_WORD];
+    l->offered = words[OFFERED_WORD];
+    l->code = (uint8_t)words[CODE_WORD];
+    l->rx.front = words[RX_FRONT_WORD];
+    l->rx.length = words[RX_LENGTH_WORD];
+    l->tx.front = words[TX_FRONT_WORD];
+    l->tx.length = words[TX_LENGTH_WORD];
     words_of_link(l, again);
-    return words[0] <= RUN && (l->offered || l->code == 0) && memcmp(words, again, sizeof again) == 0;
+    return words[STATE_WORD] <= RUN && (l->offered || l->code == 0) && memcmp(words, again, sizeof again) == 0;
 }
 
 static void input_words(const struct model_input *in, uint32_t *words)
@@ -192,10 +192,10 @@ static void store_words(const struct model_store *s, uint32_t *words)
 void words_of_router(const struct model_router *r, uint32_t words[NEFTOLEK_ROUTER_WORDS])
 {
     for (int p = 0; p < MODEL_PORTS; p++) {
-        input_words(&r->inputs[p], words + 3 * p);
-        output_words(&r->outputs[p], words + 33 + 3 * p);
-        store_words(&r->in[p], words + 66 + 2 * p);
-        store_words(&r->out[p], words + 88 + 2 * p);
+        input_words(&r->inputs[p], words + INPUT_WORD(p));
+        output_words(&r->outputs[p], words + OUTPUT_WORD(p));
+        store_words(&r->in[p], words + IN_STORE_WORD(p));
+        store_words(&r->out[p], words + OUT_STORE_WORD(p));
     }
 }
 
@@ -204,7 +204,7 @@ bool router_of_words(const uint32_t words[NEFTOLEK_ROUTER_WORDS], struct model_r
     uint32_t again[NEFTOLEK_ROUTER_WORDS];
     memset(r, 0, sizeof *r);
     for (int p = 0; p < MODEL_PORTS; p++) {
-        const uint32_t *in = words + 3 * p, *out = words + 33 + 3 * p;
+        const uint32_t *in = words + INPUT_WORD(p), *out = words + OUTPUT_WORD(p);
         if (in[0] > SPILLING)
             return false;
         r->inputs[p].mode = (uint8_t)in[0];
@@ -214,8 +214,8 @@ bool router_of_words(const uint32_t words[NEFTOLEK_ROUTER_WORDS], struct model_r
         r->outputs[p].owned = out[0];
         r->outputs[p].owner = out[1];
         r->outputs[p].last = out[2];
-        memcpy(&r->in[p], words + 66 + 2 * p, sizeof r->in[p]);
-        memcpy(&r->out[p], words + 88 + 2 * p, sizeof r->out[p]);
+        memcpy(&r->in[p], words + IN_STORE_WORD(p), sizeof r->in[p]);
+        memcpy(&r->out[p], words + OUT_STORE_WORD(p), sizeof r->out[p]);
     }
     words_of_router(r, again);
     return memcmp(words, again, sizeof again) == 0;

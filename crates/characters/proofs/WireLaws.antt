@@ -1,4 +1,4 @@
--- The bits of each character as a number, and how many there are.
+-- The bits of each character as a number.
 -- Assumes nothing.
 use mathlib.Core.Path.{_≡_, refl, sym, ap, _∙_}
 use mathlib.Core.Bool.{Bool, true, false}
@@ -6,16 +6,15 @@ use mathlib.Core.List.{List, [], _∷_, _++_, append-nil}
 use Prim.Native.Nat.{ℕ, _+_, _-_, _*_, _<_}
 use native.Mathlib.Nat.{add-assoc}
 use native.Mathlib.Omega.{arith}
-use lib.ListN.{length}
 use Rattle.vocabulary.specs.Choice.{pick}
 use Rattle.vocabulary.specs.declared.Token.{Token}
 use Rattle.vocabulary.specs.declared.Token.the-variants.{Null, Fct, NChar, TimeCode}
 use Rattle.characters.specs.Bits.{bit, odd, number, bitsOf}
-use Rattle.characters.specs.Wire.{Character, wire, data8, control, esc, eop, eep, wireOf, charactersOf, lastOdd}
+use Rattle.characters.specs.Wire.{Character, wire, data8, control, esc, eop, eep, charactersOf, lastOdd}
 use Rattle.characters.proofs.BitLaws.{number-bits, number-behind}
 
 -- of a control character the parity bit tells whether the ones before it are odd
-pub control-number : (o a b : Bool) (cs : List Character) →
+control-number : (o a b : Bool) (cs : List Character) →
     number (wire o (control a b ∷ cs)) ≡ bit o + number (false ∷ true ∷ a ∷ b ∷ wire (odd (a ∷ b ∷ [])) cs)
 control-number true a b cs = omega arith
 control-number false a b cs = omega arith
@@ -44,23 +43,12 @@ time-code-number o v h =
     ∙ ap (λ (n : ℕ). bit o + n) (escape-number v h)
     ∙ sym (add-assoc (bit o) 30 (64 * v))
 
--- both ends of a packet take four bits
-pub end-count : (b : Bool) → length (wire true (pick b eop eep ∷ [])) ≡ 4
-end-count true = refl
-end-count false = refl
-
--- and their bodies hold one 1
+-- the bodies of both ends of a packet hold one 1
 pub end-odd : (b : Bool) → odd ((pick b eop eep) .body) ≡ true
 end-odd true = refl
 end-odd false = refl
 
--- What came before decides the parity bit alone: not how many bits there are, nor the last body.
-pub count-of-any : (o : Bool) (t : Token) → length (wireOf true t) ≡ length (wireOf o t)
-count-of-any o Null = refl
-count-of-any o Fct = refl
-count-of-any o (NChar n) = refl
-count-of-any o (TimeCode v) = refl
-
+-- What came before decides the parity bit alone, not the last body.
 pub last-of-any : (o : Bool) (t : Token) → lastOdd false (charactersOf t) ≡ lastOdd o (charactersOf t)
 last-of-any o Null = refl
 last-of-any o Fct = refl

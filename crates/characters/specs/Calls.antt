@@ -9,12 +9,7 @@ use Rattle.vocabulary.specs.declared.Token.{Token}
 use Rattle.characters.specs.Encoder.{sent}
 use Rattle.characters.specs.Decoder.{bitStep, tickStep}
 use Rattle.characters.specs.Refusals.{decoderRefusal, encoderRefusal}
-use Rattle.characters.specs.declared.encoder.Encoder.{Encoder}
-use Rattle.characters.specs.declared.encoder.Encoded.{Encoded}
-use Rattle.characters.specs.declared.decoder.Decoder.{Decoder}
-use Rattle.characters.specs.declared.decoder.Decoded.{Decoded}
-use Rattle.characters.specs.declared.report.Report.the-variants.{Nothing}
-use Rattle.characters.specs.declared.decoder.Step.{Step}
+use Rattle.characters.specs.States.{Encoder, Encoded, Decoder, Decoded, Nothing, Step}
 
 unfoldable pub encodeRefused : Encoder → ℕ → Encoded
 encodeRefused e n = record { refusal = n; encoder = e; bits = 0; count = 0 }

@@ -10,15 +10,9 @@ use Rattle.vocabulary.specs.declared.Token.{Token}
 use Rattle.vocabulary.specs.declared.Token.the-variants.{Null, Fct, NChar, TimeCode}
 use Rattle.characters.specs.Bits.{bit, number}
 use Rattle.characters.specs.Wire.{charactersOf, lastOdd, goodParity}
-use Rattle.characters.specs.declared.decoder.Waiting.{Waiting}
-use Rattle.characters.specs.declared.decoder.Waiting.the-variants.{Reported, Whole, Esc}
-use Rattle.characters.specs.declared.decoder.Phase.{Phase}
-use Rattle.characters.specs.declared.decoder.Phase.the-variants.{Hunting, Between, Parity, Data, Control, Second}
-use Rattle.characters.specs.declared.decoder.Decoder.{Decoder}
-use Rattle.characters.specs.declared.decoder.Decoder.the-variants.{Fresh, Heard, Stopped}
-use Rattle.characters.specs.declared.report.Report.{Report}
-use Rattle.characters.specs.declared.report.Report.the-variants.{Nothing, Got, ParityError, EscapeError, Disconnect}
-use Rattle.characters.specs.declared.decoder.Step.{Step}
+use Rattle.characters.specs.States.{Waiting, Reported, Whole, Esc, Phase, Hunting, Between, Parity, Data, Control}
+use Rattle.characters.specs.States.{Second, Decoder, Fresh, Heard, Stopped, Report, Nothing, Got, ParityError}
+use Rattle.characters.specs.States.{EscapeError, Disconnect, Step}
 
 -- the next bit is taken in phase p, and r is reported; a bit ends a silence
 unfoldable pub goesOn : Phase → Report → Step

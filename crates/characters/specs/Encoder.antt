@@ -6,8 +6,7 @@ use lib.ListN.{length}
 use Rattle.vocabulary.specs.declared.Token.{Token}
 use Rattle.characters.specs.Bits.{number}
 use Rattle.characters.specs.Wire.{charactersOf, lastOdd, wireOf}
-use Rattle.characters.specs.declared.encoder.Encoder.{Encoder}
-use Rattle.characters.specs.declared.encoder.Encoded.{Encoded}
+use Rattle.characters.specs.States.{Encoder, Encoded}
 
 -- "Before the first character the previous body counts as 00": its ones are not odd.
 unfoldable pub freshEncoder : Encoder

@@ -1,3 +1,4 @@
+pub mod States
 pub mod Bits
 pub mod Wire
 pub mod Encoder
@@ -5,3 +6,5 @@ pub mod Decoder
 pub mod Reports
 pub mod Refusals
 pub mod Calls
+pub mod DecoderWords
+pub mod EncoderWords

@@ -8,12 +8,8 @@ use Rattle.vocabulary.specs.Refusals.{STATE, CHAR, STOPPED, Test, test, firstOf
 use Rattle.vocabulary.specs.Tokens.{badChar}
 use Rattle.vocabulary.specs.declared.Token.{Token}
 use Rattle.characters.specs.Decoder.{huntedFor}
-use Rattle.characters.specs.declared.decoder.Waiting.{Waiting}
-use Rattle.characters.specs.declared.decoder.Waiting.the-variants.{Reported, Whole, Esc}
-use Rattle.characters.specs.declared.decoder.Phase.{Phase}
-use Rattle.characters.specs.declared.decoder.Phase.the-variants.{Hunting, Between, Parity, Data, Control, Second}
-use Rattle.characters.specs.declared.decoder.Decoder.{Decoder}
-use Rattle.characters.specs.declared.decoder.Decoder.the-variants.{Fresh, Heard, Stopped}
+use Rattle.characters.specs.States.{Waiting, Reported, Whole, Esc, Phase, Hunting, Between, Parity, Data, Control}
+use Rattle.characters.specs.States.{Second, Decoder, Fresh, Heard, Stopped}
 
 -- 1 STATE: "a decoder or encoder field outside the values its rules give it". An encoder has one bit, so it has none.
 

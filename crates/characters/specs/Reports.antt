@@ -2,8 +2,7 @@
 -- Assumes nothing.
 use Prim.Native.Nat.{ℕ}
 use Rattle.vocabulary.specs.Tokens.{kindOf, valueOf}
-use Rattle.characters.specs.declared.report.Report.{Report}
-use Rattle.characters.specs.declared.report.Report.the-variants.{Nothing, Got, ParityError, EscapeError, Disconnect}
+use Rattle.characters.specs.States.{Report, Nothing, Got, ParityError, EscapeError, Disconnect}
 
 -- 0 nothing, 1 to 4 the token, then the errors in the paper's order
 abbrev pub reportKind : Report → ℕ

@@ -1,17 +1,9 @@
 // Single bits, and the ones in a body.
 ghost use mathlib.Core.Path.{_≡_};
-ghost use mathlib.Core.Bool.{false};
-ghost use Rattle.characters.specs.Bits.{bit, differ, odd, bitsOf};
-ghost use Rattle.characters.specs.Wire.{charactersOf, lastOdd, nCharCharacter};
-use vocabulary::Token;
+ghost use Rattle.characters.specs.Bits.{differ, odd, bitsOf};
+ghost use Rattle.characters.specs.Wire.{nCharCharacter};
 
-pub(crate) fn bit_number(b: bool) -> u8
-    ensures { λ r. ⌜ r ≡ bit b ⌝ }
-{
-    if b { 1 } else { 0 }
-}
-
-pub fn differ_in(a: bool, b: bool) -> bool
+pub(crate) fn differ_in(a: bool, b: bool) -> bool
     ensures { λ r. ⌜ r ≡ differ a b ⌝ }
 {
     if a { !b } else { b }
@@ -27,21 +19,9 @@ pub(crate) fn odd_ones(v: u8) -> bool
     one % 2 == 1
 }
 
-// Whether the ones in the body of an N-Char's character are odd in number.
-pub fn odd_n_char(n: u16) -> bool
+// Whether the ones in the body of an N-Char's character are odd in number: an end has one.
+pub(crate) fn odd_n_char(n: u32) -> bool
     ensures { λ r. ⌜ r ≡ odd ((nCharCharacter n) .body) ⌝ }
 {
     if n < 256 { odd_ones(n as u8) } else { true }
-}
-
-// Whether the ones in the body of a token's last character are odd in number.
-pub(crate) fn odd_last(t: Token) -> bool
-    ensures { λ r. ⌜ r ≡ lastOdd false (charactersOf t) ⌝ }
-{
-    match t {
-        Token::Null => false,
-        Token::Fct => false,
-        Token::NChar(n) => odd_n_char(n),
-        Token::TimeCode(v) => odd_ones(v),
-    }
 }

@@ -1,367 +1,336 @@
-// Bits to reports (01, Characters on the wire, Decoder).
+// Bits to reports (01, Characters on the wire, Decoder), in place on the words of a decoder.
+ghost use Prim.Native.Nat.{ℕ};
 ghost use mathlib.Core.Path.{_≡_};
-ghost use mathlib.Core.Bool.{true};
-ghost use Rattle.characters.specs.Decoder.{goesOn, stops, shifted, hunts, bodyOdd, closes, escaped, bodyOf};
-ghost use Rattle.characters.specs.Decoder.{flagged, dataToken, dataBit, plain, secondBit, inPhase, bitStep};
-ghost use Rattle.characters.specs.Decoder.{silence, tickStep};
-ghost use Rattle.characters.specs.Refusals.{badWaiting, badPhase, badDecoder, isStopped, decoderRefusal};
-ghost use Rattle.characters.specs.Calls.{bitAnswer, tickAnswer, decodeRefused, decodeAccepted};
+ghost use mathlib.Core.Bool.{Bool, true};
+ghost use mathlib.Core.List.{[], _∷_};
+ghost use lib.Dec.{eqb};
+ghost use Rattle.vocabulary.specs.Choice.{pick};
+ghost use Rattle.vocabulary.specs.Refusals.{STATE, number as refusalNumber};
+ghost use Rattle.words.specs.Words.{truthWord};
+ghost use Rattle.characters.specs.Bits.{odd};
+ghost use Rattle.characters.specs.Wire.{goodParity, nCharCharacter};
+ghost use Rattle.characters.specs.States.{Waiting, Phase, Decoder, Fresh, Stopped, Heard, Between, Parity, Data};
+ghost use Rattle.characters.specs.States.{Second, Nothing};
+ghost use Rattle.characters.specs.Decoder.{shifted, hunts, bodyOf, plain, secondBit, silence};
+ghost use Rattle.characters.specs.DecoderWords.{decoderWords, phaseWords, FitsWaiting};
+ghost use Rattle.characters.specs.DecoderWords.{escNumber, accepted, Leaves, Takes, bitLeft, tickLeft};
 use crate::bits;
-use crate::report::Report;
-use vocabulary::Token;
+use crate::decoder_tests;
+use crate::kinds::DISCONNECT;
+use crate::kinds::ESCAPE_ERROR;
+use crate::kinds::FCT;
+use crate::kinds::N_CHAR;
+use crate::kinds::NULL;
+use crate::kinds::PARITY_ERROR;
+use crate::kinds::TIME_CODE;
 
-// What the last character left to report.
-pub enum Waiting {
-    // Nothing: the first NULL was reported at once.
-    Reported,
-    // A token, once the next flag has closed its parity.
-    Whole(Token),
-    // Half of a NULL or of a Time-Code.
-    Esc,
-}
+// A decoder is so many words. What stands where, and the number of each phase, is said here.
+pub const WORDS: usize = 7;
 
-// Where in a character the next bit falls.
-pub enum Phase {
-    // Before the first NULL: the last eight bits, the oldest least significant.
-    Hunting(u8),
-    // The next bit is a parity bit.
-    Between(Waiting),
-    // The next bit is a flag, and this was the parity bit.
-    Parity(Waiting, bool),
-    // In a data body, behind an ESC or not: the bits so far at the top, a mark below them.
-    Data(bool, u8),
-    // In a control body, behind an ESC or not.
-    Control(bool),
-    // The same, and this was its first bit.
-    Second(bool, bool),
-}
+pub type Words = [u32; WORDS];
 
-pub enum Decoder {
-    // No bit yet.
-    Fresh,
-    // The ticks since the last bit, beside the phase.
-    Heard(Phase, u8),
-    // An error was reported.
-    Stopped,
-}
+const PHASE: usize = 0;
 
-pub struct Step {
-    pub decoder: Decoder,
-    pub report: Report,
-}
+// The ticks since the last bit.
+pub(crate) const SILENT: usize = 1;
 
-pub struct Decoded {
-    pub refusal: u8,
-    pub decoder: Decoder,
-    pub report: Report,
-}
+// The number and the value of what waits.
+pub(crate) const WAITS: usize = 2;
 
-pub fn fresh() -> Decoder
-    ensures { λ r. ⌜ r ≡ Decoder.Fresh ⌝ }
+pub(crate) const VALUE: usize = 3;
+
+// Whether an ESC came before.
+pub(crate) const ESCAPE: usize = 4;
+
+// The parity bit, or the first bit of a control body.
+pub(crate) const FIRST: usize = 5;
+
+// The eight places for bits.
+pub(crate) const PLACES: usize = 6;
+
+const FRESH: u32 = 0;
+
+const HUNTING: u32 = 1;
+
+const BETWEEN: u32 = 2;
+
+const PARITY: u32 = 3;
+
+const DATA: u32 = 4;
+
+const CONTROL: u32 = 5;
+
+const SECOND: u32 = 6;
+
+const STOPPED: u32 = 7;
+
+// What waits has the number of its token, or is nothing, or an ESC.
+pub(crate) const ESC: u32 = 5;
+
+// The eight bits 01110100, and the eight places before the first bit.
+pub(crate) const HUNTED_FOR: u32 = 46;
+
+const NO_BITS: u32 = 255;
+
+// The places before the first data bit: a mark, which has come to the bottom when seven bits have come.
+const NO_DATA: u32 = 128;
+
+// The ticks that a silence lasts at most: one more disconnects.
+pub(crate) const MOST_SILENT: u32 = 8;
+
+pub fn fresh(words: &mut Words)
+    ensures { λ r. ⌜ now (words .exit) ≡ decoderWords Fresh ⌝ }
 {
-    Decoder::Fresh
+    *words = [FRESH, 0, 0, 0, 0, 0, 0];
 }
 
-fn go_on(p: Phase, r: Report) -> Step
-    ensures { λ s. ⌜ s ≡ goesOn p r ⌝ }
+fn stop(words: &mut Words)
+    ensures { λ r. ⌜ now (words .exit) ≡ decoderWords Stopped ⌝ }
 {
-    Step {
-        decoder: Decoder::Heard(p, 0),
-        report: r,
+    *words = [STOPPED, 0, 0, 0, 0, 0, 0];
+}
+
+// Nothing is reported. The answer is this number where the words are good, else STATE.
+fn stay(good: bool, number: u8, out: &mut [u32; 2]) -> u32
+    ensures { λ r. ⌜ (r ≡ pick good number (refusalNumber STATE)) × (now (out .exit) ≡ 0 ∷ 0 ∷ []) ⌝ }
+{
+    *out = [0, 0];
+    if good {
+        number as u32
+    } else {
+        vocabulary::STATE as u32
     }
 }
 
-fn stop(r: Report) -> Step
-    ensures { λ s. ⌜ s ≡ stops r ⌝ }
-{
-    Step {
-        decoder: Decoder::Stopped,
-        report: r,
-    }
-}
-
-fn shift(places: u8, b: bool) -> u8
+fn shift(places: u32, b: bool) -> u32
     ensures { λ r. ⌜ r ≡ shifted places b ⌝ }
 {
-    let new = bits::bit_number(b);
-    places / 2 + 128 * new
+    if b { places / 2 + 128 } else { places / 2 }
 }
 
-fn hunt(places: u8, b: bool) -> Step
-    ensures { λ s. ⌜ s ≡ hunts places b ⌝ }
+// Each of these takes a bit in its phase, where the words are good.
+fn hunt(good: bool, places: u32, words: &mut Words, b: bool, out: &mut [u32; 2]) -> u32
+    ensures { λ r. ⌜ ((k s p : ℕ) →
+        Leaves good (now (words .entry)) (k ∷ s ∷ 0 ∷ 0 ∷ 0 ∷ 0 ∷ p ∷ []) (hunts places b)
+        (record { refusal = r; state = now (words .exit); out = now (out .exit) })) ⌝ }
 {
-    let next = shift(places, b);
-    if next == 46 {
-        go_on(Phase::Between(Waiting::Reported), Report::Got(Token::Null))
-    } else {
-        go_on(Phase::Hunting(next), Report::Nothing)
-    }
-}
-
-fn body_odd(w: Waiting) -> bool
-    ensures { λ r. ⌜ r ≡ bodyOdd w ⌝ }
-{
-    match w {
-        Waiting::Reported => false,
-        Waiting::Whole(t) => bits::odd_last(t),
-        Waiting::Esc => false,
-    }
-}
-
-fn close(w: Waiting) -> Report
-    ensures { λ r. ⌜ r ≡ closes w ⌝ }
-{
-    match w {
-        Waiting::Reported => Report::Nothing,
-        Waiting::Whole(t) => Report::Got(t),
-        Waiting::Esc => Report::Nothing,
-    }
-}
-
-fn is_escaped(w: Waiting) -> bool
-    ensures { λ r. ⌜ r ≡ escaped w ⌝ }
-{
-    match w {
-        Waiting::Reported => false,
-        Waiting::Whole(_) => false,
-        Waiting::Esc => true,
-    }
-}
-
-fn body(escape: bool, flag: bool) -> Phase
-    ensures { λ r. ⌜ r ≡ bodyOf escape flag ⌝ }
-{
-    if flag {
-        Phase::Control(escape)
-    } else {
-        Phase::Data(escape, 128)
-    }
-}
-
-fn flag_bit(w: Waiting, p: bool, flag: bool) -> Step
-    ensures { λ s. ⌜ s ≡ flagged w p flag ⌝ }
-{
-    let good = bits::differ_in(body_odd(w), bits::differ_in(p, flag));
     if good {
-        go_on(body(is_escaped(w), flag), close(w))
+        let next = shift(places, b);
+        words[SILENT] = 0;
+        if next == HUNTED_FOR {
+            words[PHASE] = BETWEEN;
+            words[PLACES] = 0;
+            *out = [NULL, 0];
+            0
+        } else {
+            words[PHASE] = HUNTING;
+            words[PLACES] = next;
+            stay(true, 0, out)
+        }
     } else {
-        stop(Report::ParityError)
+        stay(false, 0, out)
     }
 }
 
-fn data_token(escape: bool, v: u8) -> Token
-    ensures { λ r. ⌜ r ≡ dataToken escape v ⌝ }
+// A parity bit, or the first bit of a control body: it is kept, and the next phase is this one.
+fn keep_bit(good: bool, next: u32, words: &mut Words, b: bool, out: &mut [u32; 2]) -> u32
+    ensures { λ r. ⌜ ((k s n v e f p : ℕ) (d : Decoder) →
+        decoderWords d ≡ next ∷ 0 ∷ n ∷ v ∷ e ∷ truthWord b ∷ p ∷ [] →
+        Leaves good (now (words .entry)) (k ∷ s ∷ n ∷ v ∷ e ∷ f ∷ p ∷ []) (record { decoder = d; report = Nothing })
+        (record { refusal = r; state = now (words .exit); out = now (out .exit) })) ⌝ }
 {
-    if escape {
-        Token::TimeCode(v)
+    if good {
+        words[PHASE] = next;
+        words[SILENT] = 0;
+        words[FIRST] = words::truth_word(b);
+        stay(true, 0, out)
     } else {
-        Token::NChar(v as u16)
+        stay(false, 0, out)
     }
 }
 
-fn data_bit(escape: bool, places: u8, b: bool) -> Step
-    ensures { λ s. ⌜ s ≡ dataBit escape places b ⌝ }
+// A value below 256 is a body of eight bits, and 0, of what waits without a value, has no ones.
+fn good_parity(value: u32, p: bool, flag: bool) -> bool
+    ensures { λ r. ⌜ r ≡ goodParity (odd ((nCharCharacter value) .body)) p flag ⌝ }
 {
-    let next = shift(places, b);
-    if places % 2 == 1 {
-        go_on(
-            Phase::Between(Waiting::Whole(data_token(escape, next))),
-            Report::Nothing,
-        )
+    let odd = bits::odd_n_char(value);
+    bits::differ_in(odd, bits::differ_in(p, flag))
+}
+
+fn body(escape: bool, flag: bool) -> Words
+    ensures { λ r. ⌜ r ≡ phaseWords (bodyOf escape flag) 0 ⌝ }
+{
+    let esc = words::truth_word(escape);
+    if flag {
+        [CONTROL, 0, 0, 0, esc, 0, 0]
     } else {
-        go_on(Phase::Data(escape, next), Report::Nothing)
+        [DATA, 0, 0, 0, esc, 0, NO_DATA]
     }
 }
 
-fn plain_control(a: bool, b: bool) -> Waiting
-    ensures { λ r. ⌜ r ≡ plain a b ⌝ }
+// What waits is reported, unless it is nothing or an ESC.
+fn closed(waits: u32, value: u32) -> [u32; 2]
+    ensures { λ r. ⌜ r ≡ pick (eqb waits escNumber) (0 ∷ 0 ∷ []) (waits ∷ value ∷ []) ⌝ }
+{
+    if waits == ESC { [0, 0] } else { [waits, value] }
+}
+
+fn flag_bit(good: bool, words: &mut Words, flag: bool, out: &mut [u32; 2]) -> u32
+    ensures { λ r. ⌜ ((w : Waiting) (p : Bool) (s : ℕ) → FitsWaiting w →
+        Takes good (now (words .entry)) (Heard (Parity w p) s) flag
+        (record { refusal = r; state = now (words .exit); out = now (out .exit) })) ⌝ }
+{
+    if good {
+        let waits = words[WAITS];
+        let value = words[VALUE];
+        let p = words::truth(words[FIRST]);
+        if good_parity(value, p, flag) {
+            *words = body(waits == ESC, flag);
+            *out = closed(waits, value);
+            0
+        } else {
+            stop(words);
+            *out = [PARITY_ERROR, 0];
+            0
+        }
+    } else {
+        stay(false, 0, out)
+    }
+}
+
+fn data_number(escape: bool) -> u32
+    ensures { λ r. ⌜ r ≡ pick escape 4 3 ⌝ }
+{
+    if escape { TIME_CODE } else { N_CHAR }
+}
+
+fn data_bit(good: bool, words: &mut Words, b: bool, out: &mut [u32; 2]) -> u32
+    ensures { λ r. ⌜ ((e : Bool) (p s : ℕ) → Takes good (now (words .entry)) (Heard (Data e p) s) b
+        (record { refusal = r; state = now (words .exit); out = now (out .exit) })) ⌝ }
+{
+    if good {
+        let places = words[PLACES];
+        let next = shift(places, b);
+        if places % 2 == 1 {
+            let number = data_number(words::truth(words[ESCAPE]));
+            *words = [BETWEEN, 0, number, next, 0, 0, 0];
+            stay(true, 0, out)
+        } else {
+            words[SILENT] = 0;
+            words[PLACES] = next;
+            stay(true, 0, out)
+        }
+    } else {
+        stay(false, 0, out)
+    }
+}
+
+fn plain_control(a: bool, b: bool) -> Words
+    ensures { λ r. ⌜ r ≡ phaseWords (Between (plain a b)) 0 ⌝ }
 {
     if a {
         if b {
-            Waiting::Esc
+            [BETWEEN, 0, ESC, 0, 0, 0, 0]
         } else {
-            Waiting::Whole(Token::NChar(257))
+            [BETWEEN, 0, N_CHAR, 257, 0, 0, 0]
         }
     } else {
         if b {
-            Waiting::Whole(Token::NChar(256))
+            [BETWEEN, 0, N_CHAR, 256, 0, 0, 0]
         } else {
-            Waiting::Whole(Token::Fct)
+            [BETWEEN, 0, FCT, 0, 0, 0, 0]
         }
     }
 }
 
-fn escaped_control(a: bool, b: bool) -> Step
-    ensures { λ s. ⌜ s ≡ secondBit true a b ⌝ }
+fn escaped_control(words: &mut Words, a: bool, b: bool, out: &mut [u32; 2]) -> u32
+    ensures { λ r. ⌜ record { refusal = r; state = now (words .exit); out = now (out .exit) }
+        ≡ accepted (secondBit true a b) ⌝ }
 {
-    if a {
-        stop(Report::EscapeError)
+    if a | b {
+        stop(words);
+        *out = [ESCAPE_ERROR, 0];
+        0
     } else {
-        if b {
-            stop(Report::EscapeError)
+        *words = [BETWEEN, 0, NULL, 0, 0, 0, 0];
+        stay(true, 0, out)
+    }
+}
+
+fn second_bit(good: bool, words: &mut Words, b: bool, out: &mut [u32; 2]) -> u32
+    ensures { λ r. ⌜ ((e a : Bool) (s : ℕ) → Takes good (now (words .entry)) (Heard (Second e a) s) b
+        (record { refusal = r; state = now (words .exit); out = now (out .exit) })) ⌝ }
+{
+    if good {
+        let a = words::truth(words[FIRST]);
+        if words::truth(words[ESCAPE]) {
+            escaped_control(words, a, b, out)
         } else {
-            go_on(Phase::Between(Waiting::Whole(Token::Null)), Report::Nothing)
-        }
-    }
-}
-
-fn second_bit(escape: bool, a: bool, b: bool) -> Step
-    ensures { λ s. ⌜ s ≡ secondBit escape a b ⌝ }
-{
-    if escape {
-        escaped_control(a, b)
-    } else {
-        go_on(Phase::Between(plain_control(a, b)), Report::Nothing)
-    }
-}
-
-fn phase_bit(p: Phase, b: bool) -> Step
-    ensures { λ s. ⌜ s ≡ inPhase p b ⌝ }
-{
-    match p {
-        Phase::Hunting(places) => hunt(places, b),
-        Phase::Between(w) => go_on(Phase::Parity(w, b), Report::Nothing),
-        Phase::Parity(w, parity) => flag_bit(w, parity, b),
-        Phase::Data(escape, places) => data_bit(escape, places, b),
-        Phase::Control(escape) => go_on(Phase::Second(escape, b), Report::Nothing),
-        Phase::Second(escape, a) => second_bit(escape, a, b),
-    }
-}
-
-fn accept_bit(d: Decoder, b: bool) -> Step
-    ensures { λ s. ⌜ s ≡ bitStep d b ⌝ }
-{
-    match d {
-        Decoder::Fresh => hunt(255, b),
-        Decoder::Heard(p, _) => phase_bit(p, b),
-        Decoder::Stopped => stop(Report::Nothing),
-    }
-}
-
-fn silent_tick(p: Phase, silent: u8) -> Step
-    ensures { λ s. ⌜ s ≡ silence p silent ⌝ }
-{
-    if silent < 8 {
-        Step {
-            decoder: Decoder::Heard(p, silent + 1),
-            report: Report::Nothing,
+            *words = plain_control(a, b);
+            stay(true, 0, out)
         }
     } else {
-        stop(Report::Disconnect)
+        stay(false, 0, out)
     }
 }
 
-fn accept_tick(d: Decoder) -> Step
-    ensures { λ s. ⌜ s ≡ tickStep d ⌝ }
+// One bit, any number but 0 for a one: `out` gets the number and the value of the report. On the last of 01110100 from
+// fresh that is 1 and 0, NULL.
+pub fn bit(words: &mut Words, bit: u32, out: &mut [u32; 2]) -> u32
+    ensures { λ r. ⌜ record { refusal = r; state = now (words .exit); out = now (out .exit) }
+        ≡ bitLeft (now (words .entry)) bit ⌝ }
 {
-    match d {
-        Decoder::Fresh => Step {
-            decoder: Decoder::Fresh,
-            report: Report::Nothing,
-        },
-        Decoder::Heard(p, silent) => silent_tick(p, silent),
-        Decoder::Stopped => stop(Report::Nothing),
+    let b = words::truth(bit);
+    match words[PHASE] {
+        FRESH => hunt(decoder_tests::unused(words), NO_BITS, words, b, out),
+        HUNTING => {
+            let places = words::byte(words[PLACES]) as u32;
+            hunt(decoder_tests::hunting(words), places, words, b, out)
+        }
+        BETWEEN => keep_bit(decoder_tests::between(words), PARITY, words, b, out),
+        PARITY => flag_bit(decoder_tests::parity(words), words, b, out),
+        DATA => data_bit(decoder_tests::data(words), words, b, out),
+        CONTROL => keep_bit(decoder_tests::control(words), SECOND, words, b, out),
+        SECOND => second_bit(decoder_tests::second(words), words, b, out),
+        STOPPED => stay(decoder_tests::unused(words), vocabulary::STOPPED, out),
+        _ => stay(false, 0, out),
     }
 }
 
-fn bad_waiting(w: Waiting) -> bool
-    ensures { λ r. ⌜ r ≡ badWaiting w ⌝ }
+// One more tick of a silence, where the words are good.
+fn silent_tick(good: bool, words: &mut Words, out: &mut [u32; 2]) -> u32
+    ensures { λ r. ⌜ ((p : Phase) (s : ℕ) → Leaves good (now (words .entry)) (phaseWords p s) (silence p s)
+        (record { refusal = r; state = now (words .exit); out = now (out .exit) })) ⌝ }
 {
-    match w {
-        Waiting::Reported => false,
-        Waiting::Whole(t) => vocabulary::bad_char(t),
-        Waiting::Esc => false,
-    }
-}
-
-fn bad_phase(p: Phase) -> bool
-    ensures { λ r. ⌜ r ≡ badPhase p ⌝ }
-{
-    match p {
-        Phase::Hunting(places) => places == 46,
-        Phase::Between(w) => bad_waiting(w),
-        Phase::Parity(w, _) => bad_waiting(w),
-        Phase::Data(_, places) => places == 0,
-        Phase::Control(_) => false,
-        Phase::Second(_, _) => false,
-    }
-}
-
-fn bad_heard(p: Phase, silent: u8) -> bool
-    ensures { λ r. ⌜ r ≡ badDecoder (Decoder.Heard p silent) ⌝ }
-{
-    if 8 < silent { true } else { bad_phase(p) }
-}
-
-fn bad_decoder(d: Decoder) -> bool
-    ensures { λ r. ⌜ r ≡ badDecoder d ⌝ }
-{
-    match d {
-        Decoder::Fresh => false,
-        Decoder::Heard(p, silent) => bad_heard(p, silent),
-        Decoder::Stopped => false,
-    }
-}
-
-fn stopped(d: Decoder) -> bool
-    ensures { λ r. ⌜ r ≡ isStopped d ⌝ }
-{
-    match d {
-        Decoder::Fresh => false,
-        Decoder::Heard(_, _) => false,
-        Decoder::Stopped => true,
-    }
-}
-
-fn refusal(d: Decoder) -> u8
-    ensures { λ r. ⌜ r ≡ decoderRefusal d ⌝ }
-{
-    let later = vocabulary::refuse(stopped(d), vocabulary::STOPPED, 0);
-    vocabulary::refuse(bad_decoder(d), vocabulary::STATE, later)
-}
-
-fn accepted(s: Step) -> Decoded
-    ensures { λ r. ⌜ r ≡ decodeAccepted s ⌝ }
-{
-    let decoder = s.decoder;
-    let report = s.report;
-    Decoded {
-        refusal: 0,
-        decoder,
-        report,
-    }
-}
-
-fn refused(d: Decoder, number: u8) -> Decoded
-    ensures { λ r. ⌜ r ≡ decodeRefused d number ⌝ }
-{
-    Decoded {
-        refusal: number,
-        decoder: d,
-        report: Report::Nothing,
-    }
-}
-
-// One bit. On the last of 01110100 from fresh it reports `Report::Got(Token::Null)`.
-pub fn bit(d: Decoder, b: bool) -> Decoded
-    ensures { λ r. ⌜ r ≡ bitAnswer d b ⌝ }
-{
-    let number = refusal(d);
-    if number == 0 {
-        accepted(accept_bit(d, b))
+    if good {
+        let silent = words[SILENT];
+        if silent < MOST_SILENT {
+            words[SILENT] = silent + 1;
+            stay(true, 0, out)
+        } else {
+            stop(words);
+            *out = [DISCONNECT, 0];
+            0
+        }
     } else {
-        refused(d, number)
+        stay(false, 0, out)
     }
 }
 
-// One tick. The ninth in a row behind a bit reports `Report::Disconnect`.
-pub fn tick(d: Decoder) -> Decoded
-    ensures { λ r. ⌜ r ≡ tickAnswer d ⌝ }
+// One tick: `out` gets the number and the value of the report. The ninth in a row behind a bit reports 7, disconnect.
+pub fn tick(words: &mut Words, out: &mut [u32; 2]) -> u32
+    ensures { λ r. ⌜ record { refusal = r; state = now (words .exit); out = now (out .exit) }
+        ≡ tickLeft (now (words .entry)) ⌝ }
 {
-    let number = refusal(d);
-    if number == 0 {
-        accepted(accept_tick(d))
-    } else {
-        refused(d, number)
+    match words[PHASE] {
+        FRESH => stay(decoder_tests::unused(words), 0, out),
+        HUNTING => silent_tick(decoder_tests::hunting(words), words, out),
+        BETWEEN => silent_tick(decoder_tests::between(words), words, out),
+        PARITY => silent_tick(decoder_tests::parity(words), words, out),
+        DATA => silent_tick(decoder_tests::data(words), words, out),
+        CONTROL => silent_tick(decoder_tests::control(words), words, out),
+        SECOND => silent_tick(decoder_tests::second(words), words, out),
+        STOPPED => stay(decoder_tests::unused(words), vocabulary::STOPPED, out),
+        _ => stay(false, 0, out),
     }
 }

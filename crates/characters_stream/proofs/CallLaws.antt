@@ -14,13 +14,8 @@ use Rattle.characters.specs.Decoder.{goesOn, stops, bodyOdd, closes, escaped, b
 use Rattle.characters.specs.Refusals.{badDecoder, badWaiting, isStopped}
 use Rattle.characters.specs.Calls.{bitAnswer, decodeAccepted, decodeRefused}
 use Rattle.characters.proofs.BitLaws.{lowest}
-use Rattle.characters.specs.declared.decoder.Waiting.{Waiting}
-use Rattle.characters.specs.declared.decoder.Waiting.the-variants.{Whole}
-use Rattle.characters.specs.declared.decoder.Phase.the-variants.{Between, Parity, Data, Control, Second}
-use Rattle.characters.specs.declared.decoder.Decoder.{Decoder}
-use Rattle.characters.specs.declared.decoder.Decoder.the-variants.{Heard, Stopped}
-use Rattle.characters.specs.declared.report.Report.{Report}
-use Rattle.characters.specs.declared.report.Report.the-variants.{Nothing, ParityError, EscapeError}
+use Rattle.characters.specs.States.{Waiting, Whole, Between, Parity, Data, Control, Second, Decoder, Heard, Stopped}
+use Rattle.characters.specs.States.{Report, Nothing, ParityError, EscapeError}
 use Rattle.characters_stream.specs.Meaning.{Reading, fct, eop, eep, esc, null}
 use Rattle.characters_stream.proofs.RegisterLaws.{shifted-number, marked, marked-length, marked-snoc, marked-some}
 

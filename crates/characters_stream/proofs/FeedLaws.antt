@@ -7,9 +7,7 @@ use Prim.Native.Nat.{ℕ, _+_}
 use native.Mathlib.Omega.{arith}
 use lib.ListN.{length}
 use Rattle.characters.specs.Calls.{bitAnswer}
-use Rattle.characters.specs.declared.decoder.Decoder.{Decoder}
-use Rattle.characters.specs.declared.report.Report.{Report}
-use Rattle.characters.specs.declared.report.Report.the-variants.{Nothing}
+use Rattle.characters.specs.States.{Decoder, Report, Nothing}
 use Rattle.characters_stream.specs.Meaning.{Line}
 use Rattle.characters_stream.specs.Feeding.{lineOf, fed, after}
 use Rattle.characters_stream.proofs.CallLaws.{Answers}

@@ -14,14 +14,8 @@ use Rattle.characters.specs.Decoder.{plain, secondBit, inPhase, bitStep, silenc
 use Rattle.characters.specs.Refusals.{badWaiting, badPhase, decoderRefusal}
 use Rattle.characters.specs.Calls.{bitAnswer, tickAnswer, decodeAccepted, decodeRefused}
 use Rattle.characters.proofs.BitLaws.{bit-le}
-use Rattle.characters.specs.declared.decoder.Waiting.{Waiting}
-use Rattle.characters.specs.declared.decoder.Waiting.the-variants.{Whole}
-use Rattle.characters.specs.declared.decoder.Phase.{Phase}
-use Rattle.characters.specs.declared.decoder.Phase.the-variants.{Hunting, Between, Parity, Data, Control, Second}
-use Rattle.characters.specs.declared.decoder.Decoder.{Decoder}
-use Rattle.characters.specs.declared.decoder.Decoder.the-variants.{Fresh, Heard, Stopped}
-use Rattle.characters.specs.declared.decoder.Decoded.{Decoded}
-use Rattle.characters.specs.declared.decoder.Step.{Step}
+use Rattle.characters.specs.States.{Waiting, Whole, Phase, Hunting, Between, Parity, Data, Control, Second, Decoder}
+use Rattle.characters.specs.States.{Fresh, Heard, Stopped, Decoded, Step}
 use Rattle.characters_stream.specs.Feeding.{after}
 use Rattle.characters_stream.specs.GoodStates.{Good, EightPlaces, Call, bit, tick, left, leftAll, StaysGood}
 

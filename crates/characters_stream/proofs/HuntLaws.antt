@@ -16,11 +16,7 @@ use Rattle.characters.specs.Bits.{number}
 use Rattle.characters.specs.Decoder.{goesOn, huntedFor, hunts, bitStep}
 use Rattle.characters.specs.Refusals.{badDecoder, isStopped}
 use Rattle.characters.proofs.BitLaws.{number-tells}
-use Rattle.characters.specs.declared.decoder.Waiting.the-variants.{Reported}
-use Rattle.characters.specs.declared.decoder.Phase.the-variants.{Hunting, Between}
-use Rattle.characters.specs.declared.decoder.Decoder.{Decoder}
-use Rattle.characters.specs.declared.decoder.Decoder.the-variants.{Fresh, Heard}
-use Rattle.characters.specs.declared.report.Report.the-variants.{Nothing, Got}
+use Rattle.characters.specs.States.{Reported, Hunting, Between, Decoder, Fresh, Heard, Nothing, Got}
 use Rattle.characters_stream.specs.Meaning.{eightBits, EndIn8, FirstNull}
 use Rattle.characters_stream.specs.Feeding.{after}
 use Rattle.characters_stream.proofs.RegisterLaws.{shifted-number}

@@ -7,9 +7,7 @@ use mathlib.Core.List.{List, [], _∷_, _++_, append-nil}
 use Prim.Native.Nat.{ℕ, _+_}
 use native.Mathlib.Nat.{add-comm}
 use lib.ListN.{length}
-use Rattle.characters.specs.declared.decoder.Decoder.the-variants.{Fresh}
-use Rattle.characters.specs.declared.report.Report.{Report}
-use Rattle.characters.specs.declared.report.Report.the-variants.{Nothing, Got, ParityError, EscapeError, Disconnect}
+use Rattle.characters.specs.States.{Fresh, Report, Nothing, Got, ParityError, EscapeError, Disconnect}
 use Rattle.characters_stream.specs.Meaning.{ReportedAt, first-null, closed, bad-parity, bad-escape}
 use Rattle.characters_stream.specs.Meaning.{Line, Lists, none, silent, spoken}
 use Rattle.characters_stream.specs.Feeding.{lineOf, fed, SaysWhatIsMeant, MeansOneThing}

@@ -12,7 +12,7 @@ use Rattle.characters.specs.Wire.{goodParity}
 use Rattle.characters.specs.Decoder.{bodyOdd}
 use Rattle.characters.specs.Refusals.{badWaiting}
 use Rattle.characters.proofs.BitLaws.{number-below, bits-number, odd-append}
-use Rattle.characters.specs.declared.decoder.Waiting.{Waiting}
+use Rattle.characters.specs.States.{Waiting}
 use Rattle.characters_stream.specs.Meaning.{Reading, byte, fct, eop, eep, esc, null, time-code, Ended, first, next}
 
 -- eight bits make a number below 256, and are the eight bits of that number

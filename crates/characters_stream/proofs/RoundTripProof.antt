@@ -19,13 +19,7 @@ use Rattle.characters.specs.Refusals.{badWaiting}
 use Rattle.characters.specs.Calls.{encodeAnswer}
 use Rattle.characters.proofs.BitLaws.{number-bits, bits-number}
 use Rattle.characters.proofs.WireLaws.{last-of-any}
-use Rattle.characters.specs.declared.encoder.Encoder.{Encoder}
-use Rattle.characters.specs.declared.decoder.Waiting.{Waiting}
-use Rattle.characters.specs.declared.decoder.Waiting.the-variants.{Reported, Whole}
-use Rattle.characters.specs.declared.decoder.Phase.the-variants.{Between}
-use Rattle.characters.specs.declared.decoder.Decoder.{Decoder}
-use Rattle.characters.specs.declared.decoder.Decoder.the-variants.{Fresh, Heard}
-use Rattle.characters.specs.declared.report.Report.{Report}
+use Rattle.characters.specs.States.{Encoder, Waiting, Reported, Whole, Between, Decoder, Fresh, Heard, Report}
 use Rattle.characters_stream.specs.Meaning.{Reading, byte, fct, eop, eep, esc, null, time-code}
 use Rattle.characters_stream.specs.Feeding.{fed}
 use Rattle.characters_stream.specs.RoundTrip.{encoded, IsToken, AreTokens, withoutLast, reportsOf, gotAll, RoundTrip}

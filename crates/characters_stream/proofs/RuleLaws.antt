@@ -7,13 +7,8 @@ use mathlib.Core.List.{List, [], _∷_, _++_, append-nil}
 use native.Mathlib.Omega.{arith}
 use lib.ListN.{length, length-append}
 use Rattle.vocabulary.specs.declared.Token.the-variants.{Null}
-use Rattle.characters.specs.declared.decoder.Waiting.{Waiting}
-use Rattle.characters.specs.declared.decoder.Waiting.the-variants.{Reported, Whole, Esc}
-use Rattle.characters.specs.declared.decoder.Phase.the-variants.{Between, Parity}
-use Rattle.characters.specs.declared.decoder.Decoder.{Decoder}
-use Rattle.characters.specs.declared.decoder.Decoder.the-variants.{Fresh, Heard, Stopped}
-use Rattle.characters.specs.declared.report.Report.{Report}
-use Rattle.characters.specs.declared.report.Report.the-variants.{Got}
+use Rattle.characters.specs.States.{Waiting, Reported, Whole, Esc, Between, Parity, Decoder, Fresh, Heard, Stopped}
+use Rattle.characters.specs.States.{Report, Got}
 use Rattle.characters_stream.specs.Meaning.{eightBits, FirstNull, Ended, first, next}
 use Rattle.characters_stream.specs.Meaning.{ReportedAt, first-null, closed, bad-parity, bad-escape}
 use Rattle.characters_stream.specs.Feeding.{after}

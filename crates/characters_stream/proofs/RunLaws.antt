@@ -13,13 +13,8 @@ use Rattle.characters.specs.Wire.{goodParity}
 use Rattle.characters.specs.Decoder.{goesOn, hunts, bodyOdd, escaped, closes, bodyOf, dataToken}
 use Rattle.characters.specs.Refusals.{badWaiting}
 use Rattle.characters.specs.Calls.{bitAnswer, decodeAccepted}
-use Rattle.characters.specs.declared.decoder.Waiting.{Waiting}
-use Rattle.characters.specs.declared.decoder.Waiting.the-variants.{Reported, Whole}
-use Rattle.characters.specs.declared.decoder.Phase.the-variants.{Between, Data, Control}
-use Rattle.characters.specs.declared.decoder.Decoder.{Decoder}
-use Rattle.characters.specs.declared.decoder.Decoder.the-variants.{Fresh, Heard}
-use Rattle.characters.specs.declared.report.Report.{Report}
-use Rattle.characters.specs.declared.report.Report.the-variants.{Nothing, Got, ParityError, EscapeError, Disconnect}
+use Rattle.characters.specs.States.{Waiting, Reported, Whole, Between, Data, Control, Decoder, Fresh, Heard, Report}
+use Rattle.characters.specs.States.{Nothing, Got, ParityError, EscapeError, Disconnect}
 use Rattle.characters_stream.specs.Meaning.{Line, eightBits, Reading, byte, fct, eop, eep, esc, null, time-code}
 use Rattle.characters_stream.specs.Feeding.{lineOf, fed, after}
 use Rattle.characters_stream.specs.RoundTrip.{reportsOf}

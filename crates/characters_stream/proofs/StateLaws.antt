@@ -12,15 +12,9 @@ use lib.Seq.{append-snoc, take-append-le, take-all, take-nil}
 use Rattle.characters.specs.Bits.{odd, number}
 use Rattle.characters.specs.Decoder.{escaped, closes, bodyOf, dataToken}
 use Rattle.characters.specs.Calls.{bitAnswer}
-use Rattle.characters.specs.declared.decoder.Waiting.{Waiting}
-use Rattle.characters.specs.declared.decoder.Waiting.the-variants.{Reported, Whole, Esc}
-use Rattle.characters.specs.declared.decoder.Phase.{Phase}
-use Rattle.characters.specs.declared.decoder.Phase.the-variants.{Hunting, Between, Parity, Data, Control, Second}
-use Rattle.characters.specs.declared.decoder.Decoder.{Decoder}
-use Rattle.characters.specs.declared.decoder.Decoder.the-variants.{Fresh, Heard, Stopped}
-use Rattle.characters.specs.declared.decoder.Decoded.{Decoded}
-use Rattle.characters.specs.declared.report.Report.{Report}
-use Rattle.characters.specs.declared.report.Report.the-variants.{Nothing, Got, ParityError, EscapeError, Disconnect}
+use Rattle.characters.specs.States.{Waiting, Reported, Whole, Esc, Phase, Hunting, Between, Parity, Data, Control}
+use Rattle.characters.specs.States.{Second, Decoder, Fresh, Heard, Stopped, Decoded, Report, Nothing, Got, ParityError}
+use Rattle.characters.specs.States.{EscapeError, Disconnect}
 use Rattle.characters_stream.specs.Meaning.{eightBits, EndIn8, FirstNull, TogetherOdd}
 use Rattle.characters_stream.specs.Meaning.{Reading, byte, fct, eop, eep, esc, null, time-code}
 use Rattle.characters_stream.specs.Meaning.{Ended, first, next, ReportedAt, first-null, closed, bad-parity, bad-escape}

@@ -10,12 +10,7 @@ use borrow.Author.Tests.{lt-ltb, le-ltb}
 use Rattle.characters.specs.Decoder.{stops, silence, tickStep}
 use Rattle.characters.specs.Refusals.{badPhase, badDecoder, isStopped}
 use Rattle.characters.specs.Calls.{bitAnswer, tickAnswer, decodeAccepted, decodeRefused}
-use Rattle.characters.specs.declared.decoder.Phase.{Phase}
-use Rattle.characters.specs.declared.decoder.Decoder.{Decoder}
-use Rattle.characters.specs.declared.decoder.Decoder.the-variants.{Fresh, Heard, Stopped}
-use Rattle.characters.specs.declared.decoder.Decoded.{Decoded}
-use Rattle.characters.specs.declared.report.Report.{Report}
-use Rattle.characters.specs.declared.report.Report.the-variants.{Nothing, Disconnect}
+use Rattle.characters.specs.States.{Phase, Decoder, Fresh, Heard, Stopped, Decoded, Report, Nothing, Disconnect}
 use Rattle.characters_stream.specs.GoodStates.{Call, bit, tick, left, leftAll}
 use Rattle.characters_stream.specs.Ticks.{told}
 use Rattle.characters_stream.proofs.SilenceLaws.{ticks}

@@ -9,12 +9,8 @@ use native.Mathlib.Omega.{arith}
 use native.Mathlib.Decide.{decLt}
 use Rattle.characters.specs.Refusals.{badPhase, isStopped}
 use Rattle.characters.specs.Calls.{bitAnswer}
-use Rattle.characters.specs.declared.decoder.Phase.{Phase}
-use Rattle.characters.specs.declared.decoder.Decoder.{Decoder}
-use Rattle.characters.specs.declared.decoder.Decoder.the-variants.{Fresh, Heard, Stopped}
-use Rattle.characters.specs.declared.decoder.Decoded.{Decoded}
-use Rattle.characters.specs.declared.report.Report.{Report}
-use Rattle.characters.specs.declared.report.Report.the-variants.{Nothing, Got, ParityError, EscapeError, Disconnect}
+use Rattle.characters.specs.States.{Phase, Decoder, Fresh, Heard, Stopped, Decoded, Report, Nothing, Got, ParityError}
+use Rattle.characters.specs.States.{EscapeError, Disconnect}
 use Rattle.characters_stream.specs.Feeding.{after}
 use Rattle.characters_stream.specs.GoodStates.{Call, bit, tick, left, leftAll}
 use Rattle.characters_stream.specs.Ticks.{bitsIn, nineTicks, WasSilent, Failed, ReportedOn, on-bit, on-tick}

@@ -5,9 +5,7 @@ use mathlib.Core.Bool.{Bool, true, false}
 use mathlib.Core.List.{List, [], _∷_, _++_}
 use Prim.Native.Nat.{ℕ}
 use Rattle.vocabulary.specs.declared.Token.the-variants.{Null, TimeCode}
-use Rattle.characters.specs.declared.decoder.Decoder.the-variants.{Fresh}
-use Rattle.characters.specs.declared.report.Report.{Report}
-use Rattle.characters.specs.declared.report.Report.the-variants.{Got, ParityError, EscapeError}
+use Rattle.characters.specs.States.{Fresh, Report, Got, ParityError, EscapeError}
 use Rattle.characters_stream.specs.Meaning.{Line, eightBits}
 use Rattle.characters_stream.specs.Feeding.{fed}
 

@@ -5,10 +5,7 @@ use mathlib.Core.Bool.{Bool}
 use mathlib.Core.List.{List, [], _∷_, _++_}
 use Prim.Native.Nat.{ℕ, _+_}
 use Rattle.characters.specs.Calls.{bitAnswer}
-use Rattle.characters.specs.declared.decoder.Decoder.{Decoder}
-use Rattle.characters.specs.declared.decoder.Decoder.the-variants.{Fresh}
-use Rattle.characters.specs.declared.report.Report.{Report}
-use Rattle.characters.specs.declared.report.Report.the-variants.{Nothing, Got, ParityError, EscapeError, Disconnect}
+use Rattle.characters.specs.States.{Decoder, Fresh, Report, Nothing, Got, ParityError, EscapeError, Disconnect}
 use Rattle.characters_stream.specs.Meaning.{Line, Lists, ReportedAt}
 
 -- the line of a call's report, if it made one

@@ -6,9 +6,7 @@ use mathlib.Core.List.{List, [], _∷_}
 use Prim.Native.Nat.{_<_}
 use Rattle.characters.specs.Refusals.{badDecoder}
 use Rattle.characters.specs.Calls.{bitAnswer, tickAnswer}
-use Rattle.characters.specs.declared.decoder.Phase.the-variants.{Hunting, Between, Parity, Data, Control, Second}
-use Rattle.characters.specs.declared.decoder.Decoder.{Decoder}
-use Rattle.characters.specs.declared.decoder.Decoder.the-variants.{Fresh, Heard, Stopped}
+use Rattle.characters.specs.States.{Hunting, Between, Parity, Data, Control, Second, Decoder, Fresh, Heard, Stopped}
 
 -- Eight places hold eight bits: the one number of a decoder whose size a rule needs.
 abbrev pub EightPlaces : Decoder → Type 0

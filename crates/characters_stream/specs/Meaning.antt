@@ -11,10 +11,7 @@ use Rattle.vocabulary.specs.declared.Token.{Token}
 use Rattle.vocabulary.specs.declared.Token.the-variants.{Null, Fct, NChar, TimeCode}
 use Rattle.characters.specs.Bits.{odd, number}
 use Rattle.characters.specs.Decoder.{escaped}
-use Rattle.characters.specs.declared.decoder.Waiting.{Waiting}
-use Rattle.characters.specs.declared.decoder.Waiting.the-variants.{Reported, Whole, Esc}
-use Rattle.characters.specs.declared.report.Report.{Report}
-use Rattle.characters.specs.declared.report.Report.the-variants.{Got, ParityError, EscapeError}
+use Rattle.characters.specs.States.{Waiting, Reported, Whole, Esc, Report, Got, ParityError, EscapeError}
 
 -- "From fresh it hunts for the eight bits 01110100."
 abbrev pub eightBits : List Bool

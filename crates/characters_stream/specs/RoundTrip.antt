@@ -11,10 +11,7 @@ use Rattle.vocabulary.specs.declared.Token.the-variants.{Null, Fct, NChar, Time
 use Rattle.characters.specs.Bits.{bitsOf}
 use Rattle.characters.specs.Encoder.{freshEncoder}
 use Rattle.characters.specs.Calls.{encodeAnswer}
-use Rattle.characters.specs.declared.encoder.Encoder.{Encoder}
-use Rattle.characters.specs.declared.decoder.Decoder.the-variants.{Fresh}
-use Rattle.characters.specs.declared.report.Report.{Report}
-use Rattle.characters.specs.declared.report.Report.the-variants.{Got}
+use Rattle.characters.specs.States.{Encoder, Fresh, Report, Got}
 use Rattle.characters_stream.specs.Meaning.{Line}
 use Rattle.characters_stream.specs.Feeding.{fed}
 

@@ -6,10 +6,7 @@ use mathlib.Core.Bool.{Bool, true, false}
 use mathlib.Core.List.{List, [], _∷_, _++_}
 use mathlib.Core.Logic.{_↔_}
 use Rattle.characters.specs.Calls.{bitAnswer, tickAnswer}
-use Rattle.characters.specs.declared.decoder.Decoder.{Decoder}
-use Rattle.characters.specs.declared.decoder.Decoder.the-variants.{Fresh}
-use Rattle.characters.specs.declared.report.Report.{Report}
-use Rattle.characters.specs.declared.report.Report.the-variants.{Nothing, Got, ParityError, EscapeError, Disconnect}
+use Rattle.characters.specs.States.{Decoder, Fresh, Report, Nothing, Got, ParityError, EscapeError, Disconnect}
 use Rattle.characters_stream.specs.Meaning.{ReportedAt}
 use Rattle.characters_stream.specs.GoodStates.{Call, bit, tick, leftAll}
 

@@ -1,2 +1,11 @@
 pub mod TableLaws
+pub mod TestLaws
+pub mod FieldLaws
 pub mod RecordLaws
+pub mod FaultLaws
+pub mod LinkLaws
+pub mod RefusedLaws
+pub mod CallLaws
+pub mod StayLaws
+pub mod StoreFits
+pub mod HostCallLaws

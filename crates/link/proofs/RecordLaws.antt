@@ -15,7 +15,7 @@ use Rattle.link.specs.Moves.{isState, limitOf}
 use Rattle.link.specs.Refusals.{badHeld, badGiven, badTimer, badRecord, badRxSize, badTxSize, badReceive, bothRefusal}
 use Rattle.link.specs.declared.LinkState.{LinkState}
 use Rattle.link.specs.declared.LinkState.the-variants.{ErrorReset, ErrorWait, Ready, Started, Connecting, Run}
-use Rattle.link.specs.declared.Link.{Link}
+use Rattle.link.specs.Records.{Link}
 
 limit-small : (s : LinkState) → limitOf s ≤ 128
 limit-small ErrorReset = omega arith

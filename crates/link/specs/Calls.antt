@@ -18,17 +18,10 @@ use Rattle.link.specs.Hosts.{puts, putsPlaces, takes, takenNChar, offers
 use Rattle.link.specs.Refusals.{bothRefusal, receiveRefusal, putRefusal, takeRefusal, offerRefusal}
 use Rattle.link.specs.declared.Event.the-variants.{Quiet}
 use Rattle.link.specs.declared.FaultKind.{FaultKind}
-use Rattle.link.specs.declared.Controls.{Controls}
-use Rattle.link.specs.declared.Sending.{Sending}
+use Rattle.link.specs.Records.{Controls, Sending, Link, Moved, Effect, Answer, Receipt}
 use Rattle.link.specs.declared.Sent.{Sent}
 use Rattle.link.specs.declared.Sent.the-variants.{Silence}
-use Rattle.link.specs.declared.Link.{Link}
-use Rattle.link.specs.declared.Moved.{Moved}
-use Rattle.link.specs.declared.Effect.{Effect}
-use Rattle.link.specs.declared.Answer.{Answer}
-use Rattle.link.specs.declared.Receipt.{Receipt}
-use Rattle.link.specs.declared.Dispatch.{Dispatch}
-use Rattle.link.specs.declared.Taken.{Taken}
+use Rattle.link.specs.Records.{Dispatch, Taken}
 
 -- an answer, with what the places of the receive store hold when the call returns
 pub record Outcome (A : Type 0) : Type 0 where
@@ -122,7 +115,7 @@ putPlacesAfter tx l n = pick (eqb (putRefusal (length tx) l n) 0) (putsPlaces tx
 
 -- take: nothing that is lent changes
 unfoldable pub takeAccepted : List ℕ → Link → Taken
-takeAccepted rx l = record { refusal = 0; link = takes (length rx) l (takenNChar rx l); discarded = 0; nchar = takenNChar rx l }
+takeAccepted rx l = record { refusal = 0; link = takes rx l (takenNChar rx l); discarded = 0; nchar = takenNChar rx l }
 
 unfoldable pub takeRefused : Link → ℕ → Taken
 takeRefused l number = record { refusal = number; link = l; discarded = 0; nchar = 0 }

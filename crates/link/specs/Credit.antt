@@ -4,7 +4,7 @@ use Prim.Native.Nat.{ℕ, _+_}
 use mathlib.Core.Bool.{Bool, _&&_}
 use lib.Dec.{leb, ltb, eqb}
 use Rattle.link.specs.Ends.{withCredit}
-use Rattle.link.specs.declared.Link.{Link}
+use Rattle.link.specs.Records.{Link}
 
 -- "An FCT in Connecting or Run adds 8 to credit held; past 56 it is a credit error."
 abbrev pub passes56 : ℕ → Bool

@@ -6,14 +6,7 @@ use mathlib.Core.List.{List}
 use Rattle.store.specs.Changes.{freshStore}
 use Rattle.store.specs.declared.Store.{Store}
 use Rattle.link.specs.declared.LinkState.the-variants.{ErrorReset}
-use Rattle.link.specs.declared.Stage.{Stage}
-use Rattle.link.specs.declared.Controls.{Controls}
-use Rattle.link.specs.declared.Credit.{Credit}
-use Rattle.link.specs.declared.Marks.{Marks}
-use Rattle.link.specs.declared.Offer.{Offer}
-use Rattle.link.specs.declared.Offer.the-variants.{Absent}
-use Rattle.link.specs.declared.Link.{Link}
-use Rattle.link.specs.declared.Moved.{Moved}
+use Rattle.link.specs.Records.{Stage, Controls, Credit, Marks, Offer, Absent, Link, Moved}
 
 -- a link end with what it is lent: the places of its receive store and of its transmit store
 pub record End : Type 0 where

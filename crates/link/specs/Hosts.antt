@@ -5,11 +5,9 @@ use mathlib.Core.Bool.{not}
 use mathlib.Core.List.{List}
 use Rattle.vocabulary.specs.Choice.{pick}
 use Rattle.vocabulary.specs.NChars.{isEnd}
-use Rattle.store.specs.Changes.{putStore, putPlaces, frontOf, dropped}
+use Rattle.store.specs.Changes.{putStore, putPlaces, frontOf, withoutFirst}
 use Rattle.link.specs.Ends.{withMarks, withOffer, withRx, withTx, markTaken, markPut, markDiscarding}
-use Rattle.link.specs.declared.Offer.the-variants.{Code}
-use Rattle.link.specs.declared.Link.{Link}
-use Rattle.link.specs.declared.Moved.{Moved}
+use Rattle.link.specs.Records.{Code, Link, Moved}
 
 -- "later puts are accepted and discarded through the first end"
 unfoldable pub putDiscarded : Link → ℕ → Moved
@@ -21,7 +19,7 @@ putDiscarded l n =
 
 unfoldable pub putStored : ℕ → Link → ℕ → Moved
 putStored size l n =
-    record { link = withMarks (withTx l (putStore size (l .tx))) (markPut (l .marks) (not (isEnd n))); discarded = 0 }
+    record { link = withMarks (withTx l (putStore size (l .tx) n)) (markPut (l .marks) (not (isEnd n))); discarded = 0 }
 
 unfoldable pub puts : ℕ → Link → ℕ → Moved
 puts size l n = pick (l .marks .discarding) (putDiscarded l n) (putStored size l n)
@@ -33,8 +31,8 @@ putsPlaces tx l n = pick (l .marks .discarding) tx (putPlaces tx (l .tx) n)
 abbrev pub takenNChar : List ℕ → Link → ℕ
 takenNChar rx l = frontOf rx (l .rx)
 
-unfoldable pub takes : ℕ → Link → ℕ → Link
-takes size l n = withMarks (withRx l (dropped size (l .rx) 1)) (markTaken (l .marks) (not (isEnd n)))
+unfoldable pub takes : List ℕ → Link → ℕ → Link
+takes rx l n = withMarks (withRx l (withoutFirst rx (l .rx))) (markTaken (l .marks) (not (isEnd n)))
 
 -- "A second Time-Code offer in Run replaces the first."
 unfoldable pub offers : Link → ℕ → Link

@@ -1,3 +1,4 @@
+pub mod Records
 pub mod Ends
 pub mod Moves
 pub mod Table
@@ -9,3 +10,6 @@ pub mod Reset
 pub mod Hosts
 pub mod Refusals
 pub mod Calls
+pub mod LinkWords
+pub mod LinkCalls
+pub mod InPlace

@@ -10,8 +10,7 @@ use Rattle.link.specs.declared.LinkState.{LinkState}
 use Rattle.link.specs.declared.LinkState.the-variants.{ErrorReset, ErrorWait, Ready, Started, Connecting, Run}
 use Rattle.link.specs.declared.Event.{Event}
 use Rattle.link.specs.declared.Event.the-variants.{Quiet, Fault, GotFct, GotNChar, GotTimeCode, CreditError}
-use Rattle.link.specs.declared.Controls.{Controls}
-use Rattle.link.specs.declared.Link.{Link}
+use Rattle.link.specs.Records.{Controls, Link}
 
 -- "Six states: ErrorReset (fresh), ErrorWait, Ready, Started, Connecting, Run", by number.
 abbrev pub stateNumber : LinkState → ℕ

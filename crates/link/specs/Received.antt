@@ -18,8 +18,7 @@ use Rattle.link.specs.declared.Event.{Event}
 use Rattle.link.specs.declared.Event.the-variants.{Quiet, Fault, GotFct, GotNChar, GotTimeCode, CreditError}
 use Rattle.link.specs.declared.FaultKind.{FaultKind}
 use Rattle.link.specs.declared.FaultKind.the-variants.{ParityFault, EscapeFault, DisconnectFault}
-use Rattle.link.specs.declared.Link.{Link}
-use Rattle.link.specs.declared.Effect.{Effect}
+use Rattle.link.specs.Records.{Link, Effect}
 
 unfoldable pub effect : Link → Event → Time → Bool → Effect
 effect l event time tick = record { link = l; event = event; time = time; tick = tick }
@@ -41,7 +40,7 @@ fctEffect l time =
 -- one N-Char stored, and one given out fewer
 unfoldable pub storedLink : ℕ → Link → ℕ → Link
 storedLink size l n =
-    withMarks (withRx (withGiven l (l .credit .given .0 - 1)) (putStore size (l .rx))) (markStored (l .marks) (not (isEnd n)))
+    withMarks (withRx (withGiven l (l .credit .given .0 - 1)) (putStore size (l .rx) n)) (markStored (l .marks) (not (isEnd n)))
 
 -- "a received N-Char in Run takes 1 and is stored, or at 0 is a credit error and is not stored"
 abbrev pub storesNChar : Link → Bool

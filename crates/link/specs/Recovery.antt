@@ -6,16 +6,14 @@ use mathlib.Core.List.{List}
 use lib.ListN.{length}
 use Rattle.vocabulary.specs.Choice.{pick}
 use Rattle.vocabulary.specs.NChars.{EEP}
-use Rattle.store.specs.Changes.{putStore, putPlaces, dropped, found}
+use Rattle.store.specs.Changes.{putStore, putPlaces, withoutFound, found}
 use Rattle.store.specs.declared.Found.{Found}
 use Rattle.link.specs.Ends.{End, Settled, settledAt, noCredit, withMarks, withRx, withTx, markStored, markSent, markDiscarding}
 use Rattle.link.specs.Moves.{isState, nextState, entered}
 use Rattle.link.specs.declared.LinkState.{LinkState}
 use Rattle.link.specs.declared.LinkState.the-variants.{ErrorReset}
 use Rattle.link.specs.declared.Event.{Event}
-use Rattle.link.specs.declared.Offer.the-variants.{Absent}
-use Rattle.link.specs.declared.Link.{Link}
-use Rattle.link.specs.declared.Moved.{Moved}
+use Rattle.link.specs.Records.{Absent, Link, Moved}
 
 -- "Both counters, gotNULL, the NULL-sent mark and the waiting Time-Code are cleared."
 unfoldable pub cleared : Link → Link
@@ -33,23 +31,23 @@ cleared l =
 -- "If the last stored N-Char was data, an EEP is stored." Then the last stored is an end.
 unfoldable pub closedLink : ℕ → Link → Link
 closedLink size l =
-    pick (l .marks .stored) (withMarks (withRx l (putStore size (l .rx))) (markStored (l .marks) false)) l
+    pick (l .marks .stored) (withMarks (withRx l (putStore size (l .rx) EEP)) (markStored (l .marks) false)) l
 
 unfoldable pub closedPlaces : List ℕ → Link → List ℕ
 closedPlaces rx l = pick (l .marks .stored) (putPlaces rx (l .rx) EEP) rx
 
 -- "If the last sent N-Char was data, the transmit store is discarded from the front through the first end; if none is there,
 -- later puts are accepted and discarded through the first end. The last sent then counts as an end."
-unfoldable pub discardedLink : ℕ → Link → Found → Link
-discardedLink size l f =
-    withMarks (withTx l (dropped size (l .tx) (f .count)))
+unfoldable pub discardedLink : List ℕ → Link → Found → Link
+discardedLink tx l f =
+    withMarks (withTx l (withoutFound tx (l .tx) f))
     (markDiscarding (markSent (l .marks) false) (l .marks .discarding || not (f .ended)))
 
 unfoldable pub restDiscarded : List ℕ → Link → Moved
 restDiscarded tx l =
     pick (l .marks .sent)
     (record {
-      link = discardedLink (length tx) l (found tx (l .tx));
+      link = discardedLink tx l (found tx (l .tx));
       discarded = (found tx (l .tx)) .count;
     })
     (record { link = l; discarded = 0 })

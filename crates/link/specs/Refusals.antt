@@ -16,7 +16,7 @@ use Rattle.time.specs.declared.Time.{Time}
 use Rattle.link.specs.Moves.{isState, limitOf}
 use Rattle.link.specs.declared.LinkState.{LinkState}
 use Rattle.link.specs.declared.LinkState.the-variants.{Connecting, Run}
-use Rattle.link.specs.declared.Link.{Link}
+use Rattle.link.specs.Records.{Link}
 
 -- "either credit above 56; credit held outside Run, given out outside Connecting and Run"
 abbrev pub badHeld : LinkState → ℕ → Bool

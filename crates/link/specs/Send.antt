@@ -3,7 +3,6 @@
 use Prim.Native.Nat.{ℕ, _+_, _-_}
 use mathlib.Core.Bool.{Bool, true, not, _&&_}
 use mathlib.Core.List.{List}
-use lib.ListN.{length}
 use lib.Dec.{eqb}
 use Rattle.vocabulary.specs.Choice.{pick}
 use Rattle.vocabulary.specs.NChars.{isEnd}
@@ -11,17 +10,14 @@ use Rattle.vocabulary.specs.Tokens.{kindOf, valueOf}
 use Rattle.vocabulary.specs.declared.Token.{Token}
 use Rattle.vocabulary.specs.declared.Token.the-variants.{Null, Fct, NChar, TimeCode}
 use Rattle.store.specs.Ring.{free, empty}
-use Rattle.store.specs.Changes.{frontOf, dropped}
+use Rattle.store.specs.Changes.{frontOf, withoutFirst}
 use Rattle.link.specs.Ends.{withStage, withMarks, withOffer, withTx, markSent}
 use Rattle.link.specs.Credit.{mayGrant, withHeld, withGiven}
 use Rattle.link.specs.declared.LinkState.{LinkState}
 use Rattle.link.specs.declared.LinkState.the-variants.{ErrorReset, ErrorWait, Ready, Started, Connecting, Run}
-use Rattle.link.specs.declared.Offer.{Offer}
-use Rattle.link.specs.declared.Offer.the-variants.{Absent, Code}
+use Rattle.link.specs.Records.{Offer, Absent, Code, Link, Sending}
 use Rattle.link.specs.declared.Sent.{Sent}
 use Rattle.link.specs.declared.Sent.the-variants.{Silence, Sends}
-use Rattle.link.specs.declared.Link.{Link}
-use Rattle.link.specs.declared.Sending.{Sending}
 
 -- what is sent, by number: 0 nothing, else the token's
 abbrev pub sentKind : Sent → ℕ
@@ -76,21 +72,21 @@ nullSent l =
     withStage l
     (record { state = l .stage .state; timer = l .stage .timer; gotnull = l .stage .gotnull; nullsent = true })
 
--- "A sent N-Char takes 1" of the credit held, and it leaves the transmit store of this size
-unfoldable pub nCharSent : ℕ → Link → ℕ → Link
-nCharSent size l n =
-    withMarks (withTx (withHeld l (l .credit .held .0 - 1)) (dropped size (l .tx) 1)) (markSent (l .marks) (not (isEnd n)))
+-- "A sent N-Char takes 1" of the credit held, and it leaves the transmit store with these places
+unfoldable pub nCharSent : List ℕ → Link → ℕ → Link
+nCharSent tx l n =
+    withMarks (withTx (withHeld l (l .credit .held .0 - 1)) (withoutFirst tx (l .tx))) (markSent (l .marks) (not (isEnd n)))
 
 -- what is booked for a token that goes out
-abbrev pub bookedToken : ℕ → Link → Token → Link
-bookedToken size l Null = nullSent l
-bookedToken size l Fct = withGiven l (l .credit .given .0 + 8)
-bookedToken size l (NChar n) = nCharSent size l n
-bookedToken size l (TimeCode v) = withOffer l Absent
+abbrev pub bookedToken : List ℕ → Link → Token → Link
+bookedToken tx l Null = nullSent l
+bookedToken tx l Fct = withGiven l (l .credit .given .0 + 8)
+bookedToken tx l (NChar n) = nCharSent tx l n
+bookedToken tx l (TimeCode v) = withOffer l Absent
 
-abbrev pub booked : ℕ → Link → Sent → Link
-booked size l Silence = l
-booked size l (Sends t) = bookedToken size l t
+abbrev pub booked : List ℕ → Link → Sent → Link
+booked tx l Silence = l
+booked tx l (Sends t) = bookedToken tx l t
 
 unfoldable pub sending : ℕ → List ℕ → Link → Sending
-sending size tx l = record { link = booked (length tx) l (choice size tx l); sent = choice size tx l }
+sending size tx l = record { link = booked tx l (choice size tx l); sent = choice size tx l }

@@ -2,13 +2,14 @@
 -- looked up.
 -- Assumes nothing.
 use mathlib.Core.Path.{_≡_}
-use Prim.Native.Nat.{ℕ}
+use mathlib.Core.Bool.{Bool}
+use Prim.Native.Nat.{ℕ, zero, suc, _+_, _<_}
 use mathlib.Core.List.{List, [], _∷_}
 use lib.ListN.{getD}
 use lib.Dec.{eqb}
 use Rattle.vocabulary.specs.Choice.{pick}
 use Rattle.link.specs.Moves.{isState, eventNumber, When, came, isEnabled, nullsExchanged, linkDisabled, timerAtLimit}
-use Rattle.link.specs.Moves.{Move, row, Conditions, stateAfter}
+use Rattle.link.specs.Moves.{stateNumber, Move, row, Conditions, stateAfter}
 use Rattle.link.specs.declared.LinkState.{LinkState}
 use Rattle.link.specs.declared.LinkState.the-variants.{ErrorReset, ErrorWait, Ready, Started, Connecting, Run}
 use Rattle.link.specs.declared.Event.{Event}
@@ -36,20 +37,29 @@ states = ErrorReset ∷ ErrorWait ∷ Ready ∷ Started ∷ Connecting ∷ Run �
 abbrev pub stateOf : ℕ → LinkState
 stateOf n = getD states n Run
 
--- Beside what came, a state waits for one thing, Started for two: the column of the first that holds, 0 where none does.
-abbrev pub waitsFor : LinkState → Conditions → ℕ
-waitsFor ErrorReset c = pick (c .atLimit) 9 0
-waitsFor ErrorWait c = pick (c .atLimit) 9 0
-waitsFor Ready c = pick (c .enabled) 6 0
-waitsFor Started c = pick (c .exchanged) 7 (pick (c .atLimit) 9 0)
-waitsFor Connecting c = pick (c .atLimit) 9 0
-waitsFor Run c = pick (c .disabled) 8 0
+-- rows of numbers that say in each cell what the table says there
+abbrev pub SaysMoves : List (List ℕ) → Type 0
+SaysMoves rows =
+    (state column : ℕ) → state < 6 → column < 10 →
+    getD (getD rows state []) column 0 ≡ stateNumber (tableAt (stateOf state) column)
 
--- two look-ups: what came, and where that is no move, what the state waits for
+-- whether one of the columns behind those of events holds
+abbrev pub columnHolds : Conditions → ℕ → Bool
+columnHolds c column =
+    pick (eqb column 6) (c .enabled) (pick (eqb column 7) (c .exchanged) (pick (eqb column 8) (c .disabled) (c .atLimit)))
+
+-- of `count` columns from `column` on, the first that holds and whose cell is not the state itself
+unfoldable pub firstFrom : LinkState → Conditions → ℕ → ℕ → LinkState
+firstFrom s c column zero = s
+firstFrom s c column (suc count) =
+    pick (isState (tableAt s column) s) (firstFrom s c (column + 1) count)
+    (pick (columnHolds c column) (tableAt s column) (firstFrom s c (column + 1) count))
+
+-- what came, then the others: one rule for all states
 abbrev pub lookedUp : LinkState → Event → Conditions → LinkState
 lookedUp s event c =
-    pick (isState (tableAt s (eventNumber event)) s) (tableAt s (waitsFor s c)) (tableAt s (eventNumber event))
+    pick (isState (tableAt s (eventNumber event)) s) (firstFrom s c 6 4) (tableAt s (eventNumber event))
 
--- what they find is "the first that fits"
+-- what it finds is "the first that fits"
 abbrev pub FindsFirstThatFits : Type 0
 FindsFirstThatFits = (s : LinkState) (event : Event) (c : Conditions) → lookedUp s event c ≡ stateAfter s event c

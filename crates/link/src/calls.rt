@@ -1,252 +1,273 @@
-// The calls on a link end. Each takes any record, places and numbers: a bad one is refused, and then nothing changes.
+// The calls on a link end. Each takes any words, places and numbers: what is bad is refused, and then nothing changes but
+// `out`, which gets zeros.
 ghost use mathlib.Core.Path.{_≡_};
-ghost use lib.ListN.{length};
-ghost use Rattle.link.specs.Calls.{refusedWith, answered, tickOutcome, faultOutcome, controlOutcome};
-ghost use Rattle.link.specs.Calls.{resetOutcome, dispatchOf, sendRefused, sendOutcome, receiptOf};
-ghost use Rattle.link.specs.Calls.{receiveRefused, tokenAccepted, receiveOutcome, putAnswer, putPlacesAfter};
-ghost use Rattle.link.specs.Calls.{takeAccepted, takeRefused, takeAnswer, offerAccepted, offerAnswer};
-use crate::Answer;
-use crate::Controls;
-use crate::Dispatch;
-use crate::Effect;
+ghost use Prim.Native.Nat.{_<_};
+ghost use Rattle.words.specs.Words.{wordAt};
+ghost use Rattle.time.specs.Time.{freshTime};
+ghost use Rattle.link.specs.Ends.{freshLink};
+ghost use Rattle.link.specs.LinkWords.{linkWords, timeWords, timeOf};
+ghost use Rattle.link.specs.LinkCalls.{tickLeft, resetLeft, faultLeft, controlsOf, controlLeft, sendLeft};
+ghost use Rattle.link.specs.LinkCalls.{faultOf, receiveLeft, putLeft, takeLeft, offerLeft};
 use crate::Event;
 use crate::FaultKind;
-use crate::Link;
-use crate::Moved;
-use crate::Receipt;
-use crate::Sent;
-use crate::Taken;
-use crate::ends;
+use crate::LinkState;
+use crate::fields;
+use crate::fields::TIME_WORDS;
+use crate::fields::TimeWords;
+use crate::fields::WORDS;
+use crate::fields::Words;
 use crate::hosts;
 use crate::received;
 use crate::recovery;
 use crate::refusals;
 use crate::send;
 use time::Time;
-use vocabulary::Token;
+use vocabulary::CHAR;
+use vocabulary::EMPTY;
+use vocabulary::FULL;
+use vocabulary::NOTRUN;
+use vocabulary::STATE;
+use vocabulary::refuse;
 
-fn refused(l: Link, number: u8) -> Answer
-    ensures { λ r. ⌜ r ≡ refusedWith l number ⌝ }
+// A link end as it is made: in ErrorReset, controls off, stores empty.
+pub fn fresh(words: &mut Words)
+    ensures { λ r. ⌜ now (words .exit) ≡ linkWords freshLink ⌝ }
 {
-    Answer {
-        refusal: number,
-        link: l,
-        discarded: 0,
-    }
+    *words = [0; WORDS];
 }
 
-fn answer(m: Moved) -> Answer
-    ensures { λ r. ⌜ r ≡ answered m ⌝ }
+pub fn fresh_time(time: &mut TimeWords)
+    ensures { λ r. ⌜ now (time .exit) ≡ timeWords freshTime ⌝ }
 {
-    let link = m.link;
-    Answer {
-        refusal: 0,
-        link,
-        discarded: m.discarded,
-    }
+    *time = [0; TIME_WORDS];
 }
 
-// One tick of the clock.
-pub fn tick(l: Link, rx: &mut [u16], tx: &[u16]) -> Answer
-    ensures { λ r. ⌜ record { answer = r; rx = now (rx .exit) } ≡ tickOutcome (record { link = l; rx = now (rx .entry); tx = now (tx .entry) }) ⌝ }
+// One tick of the clock: `out` gets how many of the host's N-Chars were discarded.
+pub fn tick(words: &mut Words, rx: &mut [u16], tx: &[u16], out: &mut [u32; 1]) -> u32
+    ensures { λ r. ⌜ record { refusal = r; state = now (words .exit); places = now (rx .exit); out = now (out .exit) }
+        ≡ tickLeft (now (words .entry)) (now (rx .entry)) (now (tx .entry)) ⌝ }
 {
-    let number = refusals::both(l, rx.len(), tx.len());
+    let bad = refusals::no_link(words) | refusals::bad_record(words);
+    let sizes = refusals::bad_sizes(rx.len(), tx.len());
+    let stores = refusals::bad_stores(words, rx.len(), tx.len());
+    let number = vocabulary::lent(bad, sizes, stores, 0);
     if number == 0 {
-        answer(recovery::settle(Event::Quiet, received::count(l), rx, tx))
+        received::count(words);
+        let discarded = recovery::settle(Event::Quiet, words, rx, tx);
+        *out = [discarded];
+        0
     } else {
-        refused(l, number)
-    }
-}
-
-// A fault that the decoder reported.
-pub fn fault(l: Link, rx: &mut [u16], tx: &[u16], f: FaultKind) -> Answer
-    ensures { λ r. ⌜ record { answer = r; rx = now (rx .exit) } ≡ faultOutcome (record { link = l; rx = now (rx .entry); tx = now (tx .entry) }) f ⌝ }
-{
-    let number = refusals::both(l, rx.len(), tx.len());
-    if number == 0 {
-        answer(recovery::settle(received::fault_event(l, f), l, rx, tx))
-    } else {
-        refused(l, number)
-    }
-}
-
-// The three controls, all at once.
-pub fn control(l: Link, rx: &mut [u16], tx: &[u16], c: Controls) -> Answer
-    ensures { λ r. ⌜ record { answer = r; rx = now (rx .exit) } ≡ controlOutcome (record { link = l; rx = now (rx .entry); tx = now (tx .entry) }) c ⌝ }
-{
-    let number = refusals::both(l, rx.len(), tx.len());
-    if number == 0 {
-        answer(recovery::settle(Event::Quiet, ends::with_controls(l, c), rx, tx))
-    } else {
-        refused(l, number)
+        *out = [0];
+        number as u32
     }
 }
 
 // To ErrorReset from any state, with both stores emptied.
-pub fn reset(l: Link, rx: &mut [u16], tx: &[u16]) -> Answer
-    ensures { λ r. ⌜ record { answer = r; rx = now (rx .exit) } ≡ resetOutcome (record { link = l; rx = now (rx .entry); tx = now (tx .entry) }) ⌝ }
+pub fn reset(words: &mut Words, rx: &mut [u16], tx: &[u16], out: &mut [u32; 1]) -> u32
+    ensures { λ r. ⌜ record { refusal = r; state = now (words .exit); places = now (rx .exit); out = now (out .exit) }
+        ≡ resetLeft (now (words .entry)) (now (rx .entry)) (now (tx .entry)) ⌝ }
 {
-    let number = refusals::both(l, rx.len(), tx.len());
+    let bad = refusals::no_link(words) | refusals::bad_record(words);
+    let sizes = refusals::bad_sizes(rx.len(), tx.len());
+    let stores = refusals::bad_stores(words, rx.len(), tx.len());
+    let number = vocabulary::lent(bad, sizes, stores, 0);
     if number == 0 {
-        answer(recovery::reset_all(l, rx))
+        let discarded = recovery::reset_all(words, rx);
+        *out = [discarded];
+        0
     } else {
-        refused(l, number)
+        *out = [0];
+        number as u32
     }
 }
 
-fn dispatch(s: Sent, m: Moved) -> Dispatch
-    ensures { λ r. ⌜ r ≡ dispatchOf s m ⌝ }
+fn fault_of(kind: u32) -> FaultKind
+    ensures { λ r. ⌜ r ≡ faultOf kind ⌝ }
 {
-    let link = m.link;
-    Dispatch {
-        refusal: 0,
-        link,
-        discarded: m.discarded,
-        sent: s,
+    match kind {
+        5 => FaultKind::ParityFault,
+        6 => FaultKind::EscapeFault,
+        _ => FaultKind::DisconnectFault,
     }
 }
 
-fn send_refused(l: Link, number: u8) -> Dispatch
-    ensures { λ r. ⌜ r ≡ sendRefused l number ⌝ }
+// A fault by the number of the decoder's report: `fault(&mut words, &mut rx, &tx, 5, &mut out)` is a parity error.
+pub fn fault(words: &mut Words, rx: &mut [u16], tx: &[u16], kind: u32, out: &mut [u32; 1]) -> u32
+    ensures { λ r. ⌜ record { refusal = r; state = now (words .exit); places = now (rx .exit); out = now (out .exit) }
+        ≡ faultLeft (now (words .entry)) (now (rx .entry)) (now (tx .entry)) kind ⌝ }
 {
-    Dispatch {
-        refusal: number,
-        link: l,
-        discarded: 0,
-        sent: Sent::Silence,
-    }
-}
-
-// The token that is due: `Sent::Silence` before Started.
-pub fn send(l: Link, rx: &mut [u16], tx: &[u16]) -> Dispatch
-    ensures { λ r. ⌜ record { answer = r; rx = now (rx .exit) } ≡ sendOutcome (record { link = l; rx = now (rx .entry); tx = now (tx .entry) }) ⌝ }
-{
-    let number = refusals::both(l, rx.len(), tx.len());
+    let char = refuse(refusals::no_fault(kind), CHAR, 0);
+    let bad = refusals::no_link(words) | refusals::bad_record(words);
+    let sizes = refusals::bad_sizes(rx.len(), tx.len());
+    let stores = refusals::bad_stores(words, rx.len(), tx.len());
+    let number = vocabulary::lent(bad, sizes, stores, char);
     if number == 0 {
-        let sending = send::send_one(l, rx.len(), tx);
-        let link = sending.link;
-        let sent = sending.sent;
-        dispatch(sent, recovery::settle(Event::Quiet, link, rx, tx))
+        let event = received::fault_event(words, fault_of(kind));
+        let discarded = recovery::settle(event, words, rx, tx);
+        *out = [discarded];
+        0
     } else {
-        send_refused(l, number)
+        *out = [0];
+        number as u32
     }
 }
 
-fn receipt(e: Effect, m: Moved) -> Receipt
-    ensures { λ r. ⌜ r ≡ receiptOf e m ⌝ }
+// The three controls, all at once; any number but 0 is on.
+pub fn control(
+    words: &mut Words,
+    rx: &mut [u16],
+    tx: &[u16],
+    disabled: u32,
+    start: u32,
+    auto: u32,
+    out: &mut [u32; 1],
+) -> u32
+    ensures { λ r. ⌜ record { refusal = r; state = now (words .exit); places = now (rx .exit); out = now (out .exit) }
+        ≡ controlLeft (now (words .entry)) (now (rx .entry)) (now (tx .entry)) (controlsOf disabled start auto) ⌝ }
 {
-    let link = m.link;
-    let time = e.time;
-    Receipt {
-        refusal: 0,
-        link,
-        discarded: m.discarded,
-        time,
-        tick: e.tick,
-    }
-}
-
-fn receive_refused(l: Link, time: Time, number: u8) -> Receipt
-    ensures { λ r. ⌜ r ≡ receiveRefused l time number ⌝ }
-{
-    Receipt {
-        refusal: number,
-        link: l,
-        discarded: 0,
-        time,
-        tick: false,
-    }
-}
-
-fn accept_token(l: Link, rx: &mut [u16], tx: &[u16], time: Time, t: Token) -> Receipt
-    ensures { λ r. ⌜ record { answer = r; rx = now (rx .exit) } ≡ tokenAccepted (record { link = l; rx = now (rx .entry); tx = now (tx .entry) }) time t ⌝ }
-{
-    let effect = received::token(l, rx, time, t);
-    let link = effect.link;
-    let event = effect.event;
-    receipt(effect, recovery::settle(event, link, rx, tx))
-}
-
-// A token that came over the wire.
-pub fn receive(l: Link, rx: &mut [u16], tx: &[u16], time: Time, t: Token) -> Receipt
-    ensures { λ r. ⌜ record { answer = r; rx = now (rx .exit) } ≡ receiveOutcome (record { link = l; rx = now (rx .entry); tx = now (tx .entry) }) time t ⌝ }
-{
-    let number = refusals::receive(l, rx.len(), tx.len(), time, t);
+    let bad = refusals::no_link(words) | refusals::bad_record(words);
+    let sizes = refusals::bad_sizes(rx.len(), tx.len());
+    let stores = refusals::bad_stores(words, rx.len(), tx.len());
+    let number = vocabulary::lent(bad, sizes, stores, 0);
     if number == 0 {
-        accept_token(l, rx, tx, time, t)
+        hosts::set_controls(words, disabled, start, auto);
+        let discarded = recovery::settle(Event::Quiet, words, rx, tx);
+        *out = [discarded];
+        0
     } else {
-        receive_refused(l, time, number)
+        *out = [0];
+        number as u32
     }
 }
 
-// The host puts an N-Char to be sent.
-pub fn put(l: Link, tx: &mut [u16], n: u16) -> Answer
-    ensures { λ r. ⌜ (r ≡ putAnswer (length (now (tx .entry))) l n) × (now (tx .exit) ≡ putPlacesAfter (now (tx .entry)) l n) ⌝ }
+// The token that is due: `out` gets the discarded, the token's number, 0 for none, and its value.
+pub fn send(words: &mut Words, rx: &mut [u16], tx: &[u16], out: &mut [u32; 3]) -> u32
+    ensures { λ r. ⌜ record { refusal = r; state = now (words .exit); places = now (rx .exit); out = now (out .exit) }
+        ≡ sendLeft (now (words .entry)) (now (rx .entry)) (now (tx .entry)) ⌝ }
 {
-    let number = refusals::put(l, tx.len(), n);
+    let bad = refusals::no_link(words) | refusals::bad_record(words);
+    let sizes = refusals::bad_sizes(rx.len(), tx.len());
+    let stores = refusals::bad_stores(words, rx.len(), tx.len());
+    let number = vocabulary::lent(bad, sizes, stores, 0);
     if number == 0 {
-        answer(hosts::put_one(l, tx, n))
+        let sent = send::choose(words, rx.len(), tx);
+        send::book(words, tx, sent);
+        let discarded = recovery::settle(Event::Quiet, words, rx, tx);
+        let kind = send::sent_kind(sent) as u32;
+        let value = send::sent_value(sent) as u32;
+        *out = [discarded, kind, value];
+        0
     } else {
-        refused(l, number)
+        *out = [0, 0, 0];
+        number as u32
     }
 }
 
-fn accept_take(l: Link, rx: &[u16]) -> Taken
-    ensures { λ r. ⌜ r ≡ takeAccepted (now (rx .entry)) l ⌝ }
+fn time_in(time: &TimeWords) -> Time
+    ensures { λ r. ⌜ (wordAt (now (time .entry)) 0 < 256 → r ≡ timeOf (now (time .entry))) ⌝ }
 {
-    let store = l.rx;
-    let nchar = store::look(store, rx);
-    let link = hosts::take_one(l, rx, nchar);
-    Taken {
-        refusal: 0,
-        link,
-        discarded: 0,
-        nchar,
-    }
+    let count = words::byte(time[0]);
+    let ticked = words::truth(time[1]);
+    Time { count, ticked }
 }
 
-fn take_refused(l: Link, number: u8) -> Taken
-    ensures { λ r. ⌜ r ≡ takeRefused l number ⌝ }
+fn set_time(time: &mut TimeWords, t: Time)
+    ensures { λ r. ⌜ now (time .exit) ≡ timeWords t ⌝ }
 {
-    Taken {
-        refusal: number,
-        link: l,
-        discarded: 0,
-        nchar: 0,
-    }
+    let count = t.count as u32;
+    let ticked = words::truth_word(t.ticked);
+    *time = [count, ticked];
 }
 
-// The host takes an N-Char that was received.
-pub fn take(l: Link, rx: &[u16]) -> Taken
-    ensures { λ r. ⌜ r ≡ takeAnswer (now (rx .entry)) l ⌝ }
+// The token with this number and value came over the wire: `out` gets the discarded, and 1 for a tick out.
+pub fn receive(
+    words: &mut Words,
+    rx: &mut [u16],
+    tx: &[u16],
+    time: &mut TimeWords,
+    kind: u32,
+    value: u32,
+    out: &mut [u32; 2],
+) -> u32
+    ensures { λ r. ⌜ record { refusal = r; state = now (words .exit); rx = now (rx .exit); time = now (time .exit); out = now (out .exit) }
+        ≡ receiveLeft (now (words .entry)) (now (rx .entry)) (now (tx .entry)) (now (time .entry)) kind value ⌝ }
 {
-    let number = refusals::take(l, rx.len());
+    let token = words::token_of(kind, value);
+    let char = refuse(vocabulary::bad_char(token), CHAR, 0);
+    let bad = refusals::no_link(words) | (refusals::bad_record(words) | refusals::bad_time(time));
+    let sizes = refusals::bad_sizes(rx.len(), tx.len());
+    let stores = refusals::bad_stores(words, rx.len(), tx.len());
+    let number = vocabulary::lent(bad, sizes, stores, char);
     if number == 0 {
-        accept_take(l, rx)
+        let heard = received::token(words, rx, time_in(time), token);
+        let event = heard.event;
+        let after = heard.time;
+        set_time(time, after);
+        let discarded = recovery::settle(event, words, rx, tx);
+        let tick = words::truth_word(heard.tick);
+        *out = [discarded, tick];
+        0
     } else {
-        take_refused(l, number)
+        *out = [0, 0];
+        number as u32
     }
 }
 
-fn accept_offer(l: Link, v: u8) -> Answer
-    ensures { λ r. ⌜ r ≡ offerAccepted l v ⌝ }
+// The host puts an N-Char to be sent: `out` gets how many were discarded.
+pub fn put(words: &mut Words, tx: &mut [u16], nchar: u32, out: &mut [u32; 1]) -> u32
+    ensures { λ r. ⌜ record { refusal = r; state = now (words .exit); places = now (tx .exit); out = now (out .exit) }
+        ≡ putLeft (now (words .entry)) (now (tx .entry)) nchar ⌝ }
 {
-    let link = hosts::offer_code(l, v);
-    Answer {
-        refusal: 0,
-        link,
-        discarded: 0,
-    }
-}
-
-// The host offers a Time-Code: it waits until the next send in Run.
-pub fn offer(l: Link, v: u8) -> Answer
-    ensures { λ r. ⌜ r ≡ offerAnswer l v ⌝ }
-{
-    let number = refusals::offer(l);
+    let n = words::fitted(nchar);
+    let full = refuse(refusals::no_place(words, tx.len()), FULL, 0);
+    let char = refuse(vocabulary::above_eep(n), CHAR, full);
+    let bad = refusals::no_link(words) | refusals::bad_record(words);
+    let size = refusals::bad_tx_size(tx.len());
+    let store = refusals::bad_transmit(words, tx.len());
+    let number = vocabulary::lent(bad, size, store, char);
     if number == 0 {
-        accept_offer(l, v)
+        let discarded = hosts::put_one(words, tx, n);
+        *out = [discarded];
+        0
     } else {
-        refused(l, number)
+        *out = [0];
+        number as u32
+    }
+}
+
+// The host takes an N-Char that was received: `out` gets the discarded, always 0, and the N-Char.
+pub fn take(words: &mut Words, rx: &[u16], out: &mut [u32; 2]) -> u32
+    ensures { λ r. ⌜ record { refusal = r; state = now (words .exit); out = now (out .exit) }
+        ≡ takeLeft (now (words .entry)) (now (rx .entry)) ⌝ }
+{
+    let empty = refuse(refusals::is_empty(words), EMPTY, 0);
+    let bad = refusals::no_link(words) | refusals::bad_record(words);
+    let size = refusals::bad_rx_size(rx.len());
+    let store = refusals::bad_receive(words, rx.len());
+    let number = vocabulary::lent(bad, size, store, empty);
+    if number == 0 {
+        let nchar = hosts::take_one(words, rx) as u32;
+        *out = [0, nchar];
+        0
+    } else {
+        *out = [0, 0];
+        number as u32
+    }
+}
+
+// The host offers a Time-Code, which waits until the next send in Run: `out` gets the discarded, always 0.
+pub fn offer(words: &mut Words, code: u8, out: &mut [u32; 1]) -> u32
+    ensures { λ r. ⌜ record { refusal = r; state = now (words .exit); out = now (out .exit) }
+        ≡ offerLeft (now (words .entry)) code ⌝ }
+{
+    let outside = refuse(!fields::is_in(words, LinkState::Run), NOTRUN, 0);
+    let bad = refusals::no_link(words) | refusals::bad_record(words);
+    let number = refuse(bad, STATE, outside);
+    *out = [0];
+    if number == 0 {
+        hosts::offer_code(words, code);
+        0
+    } else {
+        number as u32
     }
 }

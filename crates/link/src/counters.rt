@@ -1,13 +1,10 @@
 // The two credit counters (01, Credit).
 ghost use mathlib.Core.Path.{_≡_};
-ghost use Prim.Native.Nat.{_-_};
+ghost use Prim.Native.Nat.{_+_, _-_, _%_};
 ghost use lib.Dec.{eqb};
-ghost use Rattle.link.specs.Credit.{passes56, withHeld, withGiven, mayGrant, noneGiven};
-use crate::Credit;
+ghost use Rattle.link.specs.Credit.{passes56, mayGrant, noneGiven};
 use crate::GivenOut;
 use crate::Held;
-use crate::Link;
-use crate::ends;
 
 pub(crate) fn passes_56(held: Held) -> bool
     ensures { λ r. ⌜ r ≡ passes56 (held .0) ⌝ }
@@ -55,18 +52,10 @@ pub(crate) fn one_given_less(given: GivenOut) -> GivenOut
     GivenOut(less(given.0))
 }
 
-pub(crate) fn with_held(l: Link, held: Held) -> Link
-    ensures { λ r. ⌜ r ≡ withHeld l (held .0) ⌝ }
+// Eight more, as a sent FCT gives out.
+pub(crate) fn eight_given_more(given: GivenOut) -> GivenOut
+    ensures { λ r. ⌜ r .0 ≡ (given .0 + 8) % 256 ⌝ }
 {
-    let credit = l.credit;
-    let given = credit.given;
-    ends::with_credit(l, Credit { held, given })
-}
-
-pub(crate) fn with_given(l: Link, given: GivenOut) -> Link
-    ensures { λ r. ⌜ r ≡ withGiven l (given .0) ⌝ }
-{
-    let credit = l.credit;
-    let held = credit.held;
-    ends::with_credit(l, Credit { held, given })
+    let more = given.0 as u16 + 8;
+    GivenOut((more % 256) as u8)
 }

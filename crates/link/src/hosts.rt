@@ -1,57 +1,77 @@
-// What the host does (01, Send, Going to ErrorReset by a move): put, take, offering a Time-Code.
-ghost use mathlib.Core.Path.{_≡_};
+// What the host does (01, Send, Going to ErrorReset by a move): put, take, offering a Time-Code, the controls.
 ghost use lib.ListN.{length};
-ghost use Rattle.link.specs.Hosts.{putDiscarded, putStored, puts, putsPlaces, takes, offers};
+ghost use Rattle.link.specs.Records.{Link};
+ghost use Rattle.link.specs.Ends.{withControls};
+ghost use Rattle.link.specs.Hosts.{putDiscarded, putStored, puts, putsPlaces, takes, takenNChar, offers};
 ghost use Rattle.store.specs.Changes.{putPlaces};
-use crate::Link;
-use crate::Moved;
-use crate::Offer;
-use crate::ends;
+ghost use Rattle.link.specs.LinkCalls.{controlsOf};
+ghost use Rattle.link.specs.InPlace.{Reads, Writes, SmallEnough};
+use crate::fields;
+use crate::fields::AUTO;
+use crate::fields::CODE;
+use crate::fields::DISABLED;
+use crate::fields::DISCARDING;
+use crate::fields::OFFERED;
+use crate::fields::PUT;
+use crate::fields::START;
+use crate::fields::TAKEN;
+use crate::fields::Words;
 
-fn put_discarded(l: Link, n: u16) -> Moved
-    ensures { λ r. ⌜ r ≡ putDiscarded l n ⌝ }
+fn put_discarded(words: &mut Words, n: u16)
+    ensures { λ r. ⌜ Writes (now (words .entry)) (λ (l : Link). putDiscarded l n .link) (now (words .exit)) ⌝ }
 {
-    let marks = l.marks;
     let goes_on = !vocabulary::is_end(n);
-    let left = ends::mark_discarding(ends::mark_put(marks, goes_on), goes_on);
-    let link = ends::with_marks(l, left);
-    Moved { link, discarded: 1 }
+    fields::set_truth(words, PUT, goes_on);
+    fields::set_truth(words, DISCARDING, goes_on);
 }
 
-fn put_stored(l: Link, tx: &mut [u16], n: u16) -> Moved
-    ensures { λ r. ⌜ (r ≡ putStored (length (now (tx .entry))) l n) × (now (tx .exit) ≡ putPlaces (now (tx .entry)) (l .tx) n) ⌝ }
+fn put_stored(words: &mut Words, tx: &mut [u16], n: u16)
+    ensures { λ r. ⌜ (SmallEnough (now (tx .entry)) → Writes (now (words .entry)) (λ (l : Link). putStored (length (now (tx .entry))) l n .link) (now (words .exit)))
+        × Reads (now (words .entry)) (λ (l : Link). putPlaces (now (tx .entry)) (l .tx) n) (now (tx .exit)) ⌝ }
 {
-    let marks = l.marks;
-    let store = l.tx;
-    let next = store::put(store, tx, n);
-    let put = ends::mark_put(marks, !vocabulary::is_end(n));
-    let link = ends::with_marks(ends::with_tx(l, next), put);
-    Moved { link, discarded: 0 }
+    let store = fields::tx_in(words);
+    fields::set_tx(words, store::put(store, tx, n));
+    fields::set_truth(words, PUT, !vocabulary::is_end(n));
 }
 
-pub(crate) fn put_one(l: Link, tx: &mut [u16], n: u16) -> Moved
-    ensures { λ r. ⌜ (r ≡ puts (length (now (tx .entry))) l n) × (now (tx .exit) ≡ putsPlaces (now (tx .entry)) l n) ⌝ }
+// One N-Char from the host; how many were discarded.
+pub(crate) fn put_one(words: &mut Words, tx: &mut [u16], n: u16) -> u32
+    ensures { λ r. ⌜ (SmallEnough (now (tx .entry)) → Writes (now (words .entry)) (λ (l : Link). puts (length (now (tx .entry))) l n .link) (now (words .exit)))
+        × Reads (now (words .entry)) (λ (l : Link). puts (length (now (tx .entry))) l n .discarded) r
+        × Reads (now (words .entry)) (λ (l : Link). putsPlaces (now (tx .entry)) l n) (now (tx .exit)) ⌝ }
 {
-    let marks = l.marks;
-    if marks.discarding {
-        put_discarded(l, n)
+    if words::truth(words[DISCARDING]) {
+        put_discarded(words, n);
+        1
     } else {
-        put_stored(l, tx, n)
+        put_stored(words, tx, n);
+        0
     }
 }
 
-pub(crate) fn take_one(l: Link, rx: &[u16], n: u16) -> Link
-    ensures { λ r. ⌜ r ≡ takes (length (now (rx .entry))) l n ⌝ }
+// One N-Char to the host.
+pub(crate) fn take_one(words: &mut Words, rx: &[u16]) -> u16
+    ensures { λ r. ⌜ (SmallEnough (now (rx .entry)) → Writes (now (words .entry)) (λ (l : Link). takes (now (rx .entry)) l (takenNChar (now (rx .entry)) l)) (now (words .exit)))
+        × Reads (now (words .entry)) (takenNChar (now (rx .entry))) r ⌝ }
 {
-    let marks = l.marks;
-    let store = l.rx;
-    let next = store::drop_first(store, rx, 1);
-    let taken = ends::mark_taken(marks, !vocabulary::is_end(n));
-    ends::with_marks(ends::with_rx(l, next), taken)
+    let store = fields::rx_in(words);
+    let n = store::look(store, rx);
+    fields::set_rx(words, store::drop_first(store, rx));
+    fields::set_truth(words, TAKEN, !vocabulary::is_end(n));
+    n
 }
 
-pub(crate) fn offer_code(l: Link, v: u8) -> Link
-    ensures { λ r. ⌜ r ≡ offers l v ⌝ }
+pub(crate) fn offer_code(words: &mut Words, v: u8)
+    ensures { λ r. ⌜ Writes (now (words .entry)) (λ (l : Link). offers l v) (now (words .exit)) ⌝ }
 {
-    ends::with_offer(l, Offer::Code(v))
+    words[OFFERED] = 1;
+    words[CODE] = v as u32;
+}
+
+pub(crate) fn set_controls(words: &mut Words, disabled: u32, start: u32, auto: u32)
+    ensures { λ r. ⌜ Writes (now (words .entry)) (λ (l : Link). withControls l (controlsOf disabled start auto)) (now (words .exit)) ⌝ }
+{
+    fields::set_truth(words, DISABLED, words::truth(disabled));
+    fields::set_truth(words, START, words::truth(start));
+    fields::set_truth(words, AUTO, words::truth(auto));
 }

@@ -3,104 +3,38 @@ ghost use mathlib.Core.Path.{_≡_};
 ghost use mathlib.Core.Bool.{_&&_};
 ghost use Prim.Native.Nat.{_<_};
 ghost use lib.Dec.{leb};
-ghost use Rattle.vocabulary.specs.Choice.{pick};
-ghost use Rattle.link.specs.Moves.{stateNumber, isState, eventNumber, limitOf, countsTicks, enabledBy};
-ghost use Rattle.link.specs.Moves.{conditions, nextState, entered};
-ghost use Rattle.link.specs.Table.{tableAt, stateOf, waitsFor};
-use crate::Controls;
+ghost use Rattle.link.specs.Records.{Link};
+ghost use Rattle.words.specs.Words.{wordAt};
+ghost use Rattle.link.specs.Moves.{stateNumber, eventNumber, limitOf, countsTicks, enabledBy, conditions};
+ghost use Rattle.link.specs.Moves.{nextState, entered};
+ghost use Rattle.link.specs.LinkWords.{STATE};
+ghost use Rattle.link.specs.Table.{tableAt, stateOf, columnHolds, firstFrom, SaysMoves};
+ghost use Rattle.link.specs.InPlace.{Reads, Writes};
 use crate::Event;
-use crate::Link;
-use crate::LinkState;
-use crate::Stage;
-use crate::ends;
+use crate::fields::AUTO;
+use crate::fields::DISABLED;
+use crate::fields::GOT_NULL;
+use crate::fields::NULL_SENT;
+use crate::fields::START;
+use crate::fields::STATE;
+use crate::fields::TIMER;
+use crate::fields::Words;
 
-// The next state for each state and kind of event, by number. A row for each of ErrorReset, ErrorWait, Ready, Started,
-// Connecting, Run; a column for nothing, fault, FCT, N-Char, Time-Code, credit error, then enabled, NULLs exchanged,
-// LinkDisabled, timer at its limit. A state's own number is no move.
-const NEXT: [u8; 60] = [
-    0,
-    0,
-    0,
-    0,
-    0,
-    0,
-    0,
-    0,
-    0,
-    1,
-    1,
-    0,
-    0,
-    0,
-    0,
-    1,
-    1,
-    1,
-    1,
-    2,
-    2,
-    0,
-    0,
-    0,
-    0,
-    2,
-    3,
-    2,
-    2,
-    2,
-    3,
-    0,
-    0,
-    0,
-    0,
-    3,
-    3,
-    4,
-    3,
-    0,
-    4,
-    0,
-    5,
-    0,
-    0,
-    4,
-    4,
-    4,
-    4,
-    0,
-    5,
-    0,
-    5,
-    5,
-    5,
-    0,
-    5,
-    5,
-    0,
-    5,
+type Table = [[u8; 10]; 6];
+
+// The next state for each state and kind of event, by number: a row for each state, a column for nothing, fault, FCT,
+// N-Char, Time-Code, credit error, then enabled, NULLs exchanged, LinkDisabled, timer at its limit. A state's own number is
+// no move.
+const NEXT: Table = [
+    [0, 0, 0, 0, 0, 0, 0, 0, 0, 1],
+    [1, 0, 0, 0, 0, 1, 1, 1, 1, 2],
+    [2, 0, 0, 0, 0, 2, 3, 2, 2, 2],
+    [3, 0, 0, 0, 0, 3, 3, 4, 3, 0],
+    [4, 0, 5, 0, 0, 4, 4, 4, 4, 0],
+    [5, 0, 5, 5, 5, 0, 5, 5, 0, 5],
 ];
 
-// A state's number, from 0 for ErrorReset to 5 for Run.
-pub fn state_number(s: LinkState) -> u8
-    ensures { λ r. ⌜ r ≡ stateNumber s ⌝ }
-{
-    match s {
-        LinkState::ErrorReset => 0,
-        LinkState::ErrorWait => 1,
-        LinkState::Ready => 2,
-        LinkState::Started => 3,
-        LinkState::Connecting => 4,
-        LinkState::Run => 5,
-    }
-}
-
-pub(crate) fn is_state(s: LinkState, other: LinkState) -> bool
-    ensures { λ r. ⌜ r ≡ isState s other ⌝ }
-{
-    state_number(s) == state_number(other)
-}
-
-fn event_number(e: Event) -> u8
+fn event_number(e: Event) -> u32
     ensures { λ r. ⌜ r ≡ eventNumber e ⌝ }
 {
     match e {
@@ -114,136 +48,124 @@ fn event_number(e: Event) -> u8
 }
 
 // Where a state's timer moves it.
-pub(crate) fn limit(s: LinkState) -> u8
-    ensures { λ r. ⌜ r ≡ limitOf s ⌝ }
+pub(crate) fn limit(state: u32) -> u32
+    ensures { λ r. ⌜ r ≡ limitOf (stateOf state) ⌝ }
 {
-    match s {
-        LinkState::ErrorReset => 64,
-        LinkState::ErrorWait => 128,
-        LinkState::Ready => 1,
-        LinkState::Started => 128,
-        LinkState::Connecting => 128,
-        LinkState::Run => 1,
+    match state {
+        0 => 64,
+        1 => 128,
+        2 => 1,
+        3 => 128,
+        4 => 128,
+        _ => 1,
     }
 }
 
-pub(crate) fn counts_ticks(s: LinkState) -> bool
-    ensures { λ r. ⌜ r ≡ countsTicks s ⌝ }
+pub(crate) fn counts_ticks(state: u32) -> bool
+    ensures { λ r. ⌜ r ≡ countsTicks (stateOf state) ⌝ }
 {
-    match s {
-        LinkState::ErrorReset => true,
-        LinkState::ErrorWait => true,
-        LinkState::Ready => false,
-        LinkState::Started => true,
-        LinkState::Connecting => true,
-        LinkState::Run => false,
+    match state {
+        0 => true,
+        1 => true,
+        2 => false,
+        3 => true,
+        4 => true,
+        _ => false,
     }
 }
 
-fn is_enabled(c: Controls, gotnull: bool) -> bool
-    ensures { λ r. ⌜ r ≡ enabledBy c gotnull ⌝ }
+fn is_enabled(words: &Words) -> bool
+    ensures { λ r. ⌜ Reads (now (words .entry)) (λ (l : Link). enabledBy (l .controls) (l .stage .gotnull)) r ⌝ }
 {
-    let disabled = c.disabled;
-    let start = c.start;
-    let auto = c.auto;
-    if disabled {
+    if words::truth(words[DISABLED]) {
         false
     } else {
-        if start {
+        if words::truth(words[START]) {
             true
         } else {
-            if auto { gotnull } else { false }
+            if words::truth(words[AUTO]) {
+                words::truth(words[GOT_NULL])
+            } else {
+                false
+            }
         }
     }
 }
 
-fn state_of(n: u8) -> LinkState
-    ensures { λ r. ⌜ r ≡ stateOf n ⌝ }
+fn exchanged(words: &Words) -> bool
+    ensures { λ r. ⌜ Reads (now (words .entry)) (λ (l : Link). l .stage .gotnull && l .stage .nullsent) r ⌝ }
 {
-    match n {
-        0 => LinkState::ErrorReset,
-        1 => LinkState::ErrorWait,
-        2 => LinkState::Ready,
-        3 => LinkState::Started,
-        4 => LinkState::Connecting,
-        _ => LinkState::Run,
-    }
-}
-
-fn look_up(s: LinkState, column: u8) -> u8
-    requires { ⌜ column < 10 ⌝ }
-    ensures { λ r. ⌜ r ≡ stateNumber (tableAt s column) ⌝ }
-{
-    let at = state_number(s) * 10 + column;
-    NEXT[at as usize]
-}
-
-fn at_limit(g: Stage) -> bool
-    ensures { λ r. ⌜ r ≡ leb (limitOf (g .state)) (g .timer) ⌝ }
-{
-    let state = g.state;
-    let timer = g.timer;
-    limit(state) <= timer
-}
-
-fn exchanged(g: Stage) -> bool
-    ensures { λ r. ⌜ r ≡ g .gotnull && g .nullsent ⌝ }
-{
-    let gotnull = g.gotnull;
-    let nullsent = g.nullsent;
-    if gotnull { nullsent } else { false }
-}
-
-fn column(holds: bool, column: u8, other: u8) -> u8
-    ensures { λ r. ⌜ r ≡ pick holds column other ⌝ }
-{
-    if holds { column } else { other }
-}
-
-// The column of what a state waits for beside events.
-fn waits_for(l: Link) -> u8
-    ensures { λ r. ⌜ r ≡ waitsFor (l .stage .state) (conditions l) ⌝ }
-{
-    let stage = l.stage;
-    let controls = l.controls;
-    let state = stage.state;
-    match state {
-        LinkState::ErrorReset => column(at_limit(stage), 9, 0),
-        LinkState::ErrorWait => column(at_limit(stage), 9, 0),
-        LinkState::Ready => column(is_enabled(controls, stage.gotnull), 6, 0),
-        LinkState::Started => column(exchanged(stage), 7, column(at_limit(stage), 9, 0)),
-        LinkState::Connecting => column(at_limit(stage), 9, 0),
-        LinkState::Run => column(controls.disabled, 8, 0),
-    }
-}
-
-// The state after an event's effect: what came, and where that is no move, what the state waits for.
-pub(crate) fn next_state(l: Link, e: Event) -> LinkState
-    ensures { λ r. ⌜ r ≡ nextState e l ⌝ }
-{
-    let stage = l.stage;
-    let state = stage.state;
-    let first = look_up(state, event_number(e));
-    if first == state_number(state) {
-        state_of(look_up(state, waits_for(l)))
+    if words::truth(words[GOT_NULL]) {
+        words::truth(words[NULL_SENT])
     } else {
-        state_of(first)
+        false
     }
 }
 
-pub(crate) fn enter(l: Link, s: LinkState) -> Link
-    ensures { λ r. ⌜ r ≡ entered l s ⌝ }
+fn at_limit(words: &Words) -> bool
+    ensures { λ r. ⌜ Reads (now (words .entry)) (λ (l : Link). leb (limitOf (l .stage .state)) (l .stage .timer)) r ⌝ }
 {
-    let stage = l.stage;
-    let gotnull = stage.gotnull;
-    let nullsent = stage.nullsent;
-    ends::with_stage(
-        l,
-        Stage {
-            state: s,
-            timer: 0,
-            gotnull,
-            nullsent,
-        },
-    )
+    limit(words[STATE]) <= words[TIMER]
+}
+
+fn look_up(table: &Table, state: u32, column: u32) -> u32
+    requires { ⌜ (state < 6) × (column < 10) × SaysMoves (now table) ⌝ }
+    ensures { λ r. ⌜ r ≡ stateNumber (tableAt (stateOf state) column) ⌝ }
+{
+    let row = state as usize;
+    let at = column as usize;
+    table[row][at] as u32
+}
+
+fn column_holds(words: &Words, column: u32) -> bool
+    ensures { λ r. ⌜ Reads (now (words .entry)) (λ (l : Link). columnHolds (conditions l) column) r ⌝ }
+{
+    match column {
+        6 => is_enabled(words),
+        7 => exchanged(words),
+        8 => words::truth(words[DISABLED]),
+        _ => at_limit(words),
+    }
+}
+
+// Beside what came, the first column that holds and whose cell is not the state itself.
+fn first_other(table: &Table, words: &Words) -> u32
+    requires { ⌜ (wordAt (now words) STATE < 6) × SaysMoves (now table) ⌝ }
+    ensures { λ r. ⌜ Reads (now (words .entry)) (λ (l : Link). stateNumber (firstFrom (l .stage .state) (conditions l) 6 4)) r ⌝ }
+{
+    let state = words[STATE];
+    let mut column = 6;
+    while column < 10 {
+        let to = look_up(table, state, column);
+        if to != state {
+            if column_holds(words, column) {
+                return to;
+            }
+        }
+        column = column + 1;
+    }
+    state
+}
+
+// The number of the state after an event's effect. The table is built at each use of the constant, so it is taken once and
+// lent.
+pub(crate) fn next_state(e: Event, words: &Words) -> u32
+    requires { ⌜ wordAt (now words) STATE < 6 ⌝ }
+    ensures { λ r. ⌜ Reads (now (words .entry)) (λ (l : Link). stateNumber (nextState e l)) r ⌝ }
+{
+    let table = NEXT;
+    let state = words[STATE];
+    let to = look_up(&table, state, event_number(e));
+    if to == state {
+        first_other(&table, words)
+    } else {
+        to
+    }
+}
+
+pub(crate) fn enter(words: &mut Words, s: u32)
+    ensures { λ r. ⌜ (s < 6 → Writes (now (words .entry)) (λ (l : Link). entered l (stateOf s)) (now (words .exit))) ⌝ }
+{
+    words[STATE] = s;
+    words[TIMER] = 0;
 }

@@ -4,195 +4,178 @@ ghost use mathlib.Core.Bool.{_||_, not};
 ghost use lib.ListN.{length};
 ghost use Prim.Native.Nat.{_<_};
 ghost use Rattle.vocabulary.specs.Choice.{pick};
+ghost use Rattle.words.specs.Words.{wordAt};
 ghost use Rattle.store.specs.Changes.{putPlaces};
 ghost use Rattle.link.specs.declared.LinkState.{LinkState};
+ghost use Rattle.link.specs.Records.{Link};
 ghost use Rattle.link.specs.Moves.{isState};
-ghost use Rattle.link.specs.Received.{effect, gotNull, fctEffect, storedLink, storesNChar, nCharEffect};
-ghost use Rattle.link.specs.Received.{timeCodeEffect, ignoresAll, ignoresToken, heardEffect, tokenEffect};
-ghost use Rattle.link.specs.Received.{heardPlaces, tokenPlaces, ignoresFault, faultEvent, counted};
-use crate::Effect;
+ghost use Rattle.link.specs.Received.{gotNull, fctEffect, storedLink, storesNChar, nCharEffect, timeCodeEffect};
+ghost use Rattle.link.specs.Received.{ignoresAll, ignoresToken, heardEffect, tokenEffect, heardPlaces};
+ghost use Rattle.link.specs.Received.{tokenPlaces, ignoresFault, faultEvent, counted};
+ghost use Rattle.link.specs.LinkWords.{TIMER, linkWords};
+ghost use Rattle.link.specs.InPlace.{Reads, Writes, WritesGood, SmallEnough, Good, heardOf, Hears};
 use crate::Event;
 use crate::FaultKind;
+use crate::Heard;
 use crate::Held;
-use crate::Link;
 use crate::LinkState;
-use crate::Stage;
 use crate::counters;
-use crate::ends;
+use crate::fields;
+use crate::fields::GOT_NULL;
+use crate::fields::STATE;
+use crate::fields::STORED;
+use crate::fields::TIMER;
+use crate::fields::Words;
 use crate::moves;
 use time::Time;
 use vocabulary::Token;
 
-fn effect_of(l: Link, event: Event, time: Time, tick: bool) -> Effect
-    ensures { λ r. ⌜ r ≡ effect l event time tick ⌝ }
+fn heard(event: Event, time: Time, tick: bool) -> Heard
+    ensures { λ r. ⌜ r ≡ record { event = event; time = time; tick = tick } ⌝ }
 {
-    Effect {
-        link: l,
-        event,
-        time,
-        tick,
-    }
+    Heard { event, time, tick }
 }
 
-fn got_null(l: Link) -> Link
-    ensures { λ r. ⌜ r ≡ gotNull l ⌝ }
+fn got_null(words: &mut Words)
+    ensures { λ r. ⌜ Writes (now (words .entry)) gotNull (now (words .exit)) ⌝ }
 {
-    let stage = l.stage;
-    let state = stage.state;
-    let timer = stage.timer;
-    let nullsent = stage.nullsent;
-    ends::with_stage(
-        l,
-        Stage {
-            state,
-            timer,
-            gotnull: true,
-            nullsent,
-        },
-    )
+    fields::set_truth(words, GOT_NULL, true);
 }
 
-fn in_state(l: Link, s: LinkState) -> bool
-    ensures { λ r. ⌜ r ≡ isState (l .stage .state) s ⌝ }
+fn takes_fct(words: &Words) -> bool
+    ensures { λ r. ⌜ Reads (now (words .entry)) (λ (l : Link). isState (l .stage .state) LinkState.Connecting || isState (l .stage .state) LinkState.Run) r ⌝ }
 {
-    let stage = l.stage;
-    let state = stage.state;
-    moves::is_state(state, s)
-}
-
-fn takes_fct(l: Link) -> bool
-    ensures { λ r. ⌜ r ≡ isState (l .stage .state) LinkState.Connecting || isState (l .stage .state) LinkState.Run ⌝ }
-{
-    if in_state(l, LinkState::Connecting) {
+    if fields::is_in(words, LinkState::Connecting) {
         true
     } else {
-        in_state(l, LinkState::Run)
+        fields::is_in(words, LinkState::Run)
     }
 }
 
-fn got_fct(l: Link, time: Time) -> Effect
-    ensures { λ r. ⌜ r ≡ fctEffect l time ⌝ }
+fn got_fct(words: &mut Words, time: Time) -> Heard
+    ensures { λ r. ⌜ ((l : Link) → now (words .entry) ≡ linkWords l → Good l →
+        (r ≡ heardOf (fctEffect l time)) × (now (words .exit) ≡ linkWords (fctEffect l time .link))) ⌝ }
 {
-    let credit = l.credit;
-    let held = credit.held;
-    if takes_fct(l) {
+    if takes_fct(words) {
+        let held = fields::held_in(words);
         if counters::passes_56(held) {
-            effect_of(l, Event::CreditError, time, false)
+            heard(Event::CreditError, time, false)
         } else {
-            effect_of(
-                counters::with_held(l, Held(held.0 + 8)),
-                Event::GotFct,
-                time,
-                false,
-            )
+            fields::set_held(words, Held(held.0 + 8));
+            heard(Event::GotFct, time, false)
         }
     } else {
-        effect_of(l, Event::GotFct, time, false)
+        heard(Event::GotFct, time, false)
     }
 }
 
-fn store_n_char(l: Link, rx: &mut [u16], n: u16) -> Link
-    ensures { λ r. ⌜ (r ≡ storedLink (length (now (rx .entry))) l n) × (now (rx .exit) ≡ putPlaces (now (rx .entry)) (l .rx) n) ⌝ }
+fn store_n_char(words: &mut Words, rx: &mut [u16], n: u16)
+    ensures { λ r. ⌜ (SmallEnough (now (rx .entry)) → WritesGood (now (words .entry)) (λ (l : Link). storedLink (length (now (rx .entry))) l n) (now (words .exit)))
+        × Reads (now (words .entry)) (λ (l : Link). putPlaces (now (rx .entry)) (l .rx) n) (now (rx .exit)) ⌝ }
 {
-    let credit = l.credit;
-    let given = credit.given;
-    let marks = l.marks;
-    let store = l.rx;
-    let next = store::put(store, rx, n);
-    let stored = ends::mark_stored(marks, !vocabulary::is_end(n));
-    let fewer = counters::with_given(l, counters::one_given_less(given));
-    ends::with_marks(ends::with_rx(fewer, next), stored)
+    let given = fields::given_in(words);
+    fields::set_given(words, counters::one_given_less(given));
+    let store = fields::rx_in(words);
+    fields::set_rx(words, store::put(store, rx, n));
+    fields::set_truth(words, STORED, !vocabulary::is_end(n));
 }
 
-fn got_n_char(l: Link, rx: &mut [u16], time: Time, n: u16) -> Effect
-    ensures { λ r. ⌜ (r ≡ nCharEffect (length (now (rx .entry))) l time n) × (now (rx .exit) ≡ pick (storesNChar l) (putPlaces (now (rx .entry)) (l .rx) n) (now (rx .entry))) ⌝ }
+fn got_n_char(words: &mut Words, rx: &mut [u16], time: Time, n: u16) -> Heard
+    ensures { λ r. ⌜ Hears (now (words .entry)) (now (rx .entry)) (λ (l : Link). nCharEffect (length (now (rx .entry))) l time n)
+        (λ (l : Link). pick (storesNChar l) (putPlaces (now (rx .entry)) (l .rx) n) (now (rx .entry))) r (now (words .exit)) (now (rx .exit)) ⌝ }
 {
-    let credit = l.credit;
-    let given = credit.given;
-    if in_state(l, LinkState::Run) {
-        if counters::none_given(given) {
-            effect_of(l, Event::CreditError, time, false)
+    if fields::is_in(words, LinkState::Run) {
+        if counters::none_given(fields::given_in(words)) {
+            heard(Event::CreditError, time, false)
         } else {
-            effect_of(store_n_char(l, rx, n), Event::GotNChar, time, false)
+            store_n_char(words, rx, n);
+            heard(Event::GotNChar, time, false)
         }
     } else {
-        effect_of(l, Event::GotNChar, time, false)
+        heard(Event::GotNChar, time, false)
     }
 }
 
-fn got_time_code(l: Link, time: Time, v: u8) -> Effect
-    ensures { λ r. ⌜ r ≡ timeCodeEffect l time v ⌝ }
+fn got_time_code(words: &Words, time: Time, v: u8) -> Heard
+    ensures { λ r. ⌜ Reads (now (words .entry)) (λ (l : Link). heardOf (timeCodeEffect l time v)) r ⌝ }
 {
-    if in_state(l, LinkState::Run) {
+    if fields::is_in(words, LinkState::Run) {
         let next = time::after(time, v);
-        effect_of(l, Event::GotTimeCode, next, next.ticked)
+        heard(Event::GotTimeCode, next, next.ticked)
     } else {
-        effect_of(l, Event::GotTimeCode, time, false)
+        heard(Event::GotTimeCode, time, false)
     }
 }
 
-fn ignores_all(l: Link) -> bool
-    ensures { λ r. ⌜ r ≡ ignoresAll l ⌝ }
+fn ignores_all(words: &Words) -> bool
+    ensures { λ r. ⌜ Reads (now (words .entry)) ignoresAll r ⌝ }
 {
-    in_state(l, LinkState::ErrorReset)
+    fields::is_in(words, LinkState::ErrorReset)
 }
 
 // Before gotNULL, all but NULL and a disconnect.
-fn ignores_most(l: Link) -> bool
-    ensures { λ r. ⌜ r ≡ ignoresAll l || not (l .stage .gotnull) ⌝ }
+fn ignores_most(words: &Words) -> bool
+    ensures { λ r. ⌜ Reads (now (words .entry)) (λ (l : Link). ignoresAll l || not (l .stage .gotnull)) r ⌝ }
 {
-    let stage = l.stage;
-    let gotnull = stage.gotnull;
-    if ignores_all(l) { true } else { !gotnull }
-}
-
-fn ignores_token(l: Link, t: Token) -> bool
-    ensures { λ r. ⌜ r ≡ ignoresToken l t ⌝ }
-{
-    match t {
-        Token::Null => ignores_all(l),
-        Token::Fct => ignores_most(l),
-        Token::NChar(_) => ignores_most(l),
-        Token::TimeCode(_) => ignores_most(l),
+    if ignores_all(words) {
+        true
+    } else {
+        !words::truth(words[GOT_NULL])
     }
 }
 
-fn heard(l: Link, rx: &mut [u16], time: Time, t: Token) -> Effect
-    ensures { λ r. ⌜ (r ≡ heardEffect (length (now (rx .entry))) l time t) × (now (rx .exit) ≡ heardPlaces (now (rx .entry)) l t) ⌝ }
+fn ignores_token(words: &Words, t: Token) -> bool
+    ensures { λ r. ⌜ Reads (now (words .entry)) (λ (l : Link). ignoresToken l t) r ⌝ }
 {
     match t {
-        Token::Null => effect_of(got_null(l), Event::Quiet, time, false),
-        Token::Fct => got_fct(l, time),
-        Token::NChar(n) => got_n_char(l, rx, time, n),
-        Token::TimeCode(v) => got_time_code(l, time, v),
+        Token::Null => ignores_all(words),
+        Token::Fct => ignores_most(words),
+        Token::NChar(_) => ignores_most(words),
+        Token::TimeCode(_) => ignores_most(words),
+    }
+}
+
+fn hear(words: &mut Words, rx: &mut [u16], time: Time, t: Token) -> Heard
+    ensures { λ r. ⌜ Hears (now (words .entry)) (now (rx .entry)) (λ (l : Link). heardEffect (length (now (rx .entry))) l time t)
+        (λ (l : Link). heardPlaces (now (rx .entry)) l t) r (now (words .exit)) (now (rx .exit)) ⌝ }
+{
+    match t {
+        Token::Null => {
+            got_null(words);
+            heard(Event::Quiet, time, false)
+        }
+        Token::Fct => got_fct(words, time),
+        Token::NChar(n) => got_n_char(words, rx, time, n),
+        Token::TimeCode(v) => got_time_code(words, time, v),
     }
 }
 
 // A received token, before the move.
-pub(crate) fn token(l: Link, rx: &mut [u16], time: Time, t: Token) -> Effect
-    ensures { λ r. ⌜ (r ≡ tokenEffect (length (now (rx .entry))) l time t) × (now (rx .exit) ≡ tokenPlaces (now (rx .entry)) l t) ⌝ }
+pub(crate) fn token(words: &mut Words, rx: &mut [u16], time: Time, t: Token) -> Heard
+    ensures { λ r. ⌜ Hears (now (words .entry)) (now (rx .entry)) (λ (l : Link). tokenEffect (length (now (rx .entry))) l time t)
+        (λ (l : Link). tokenPlaces (now (rx .entry)) l t) r (now (words .exit)) (now (rx .exit)) ⌝ }
 {
-    if ignores_token(l, t) {
-        effect_of(l, Event::Quiet, time, false)
+    if ignores_token(words, t) {
+        heard(Event::Quiet, time, false)
     } else {
-        heard(l, rx, time, t)
+        hear(words, rx, time, t)
     }
 }
 
-fn ignores_fault(l: Link, f: FaultKind) -> bool
-    ensures { λ r. ⌜ r ≡ ignoresFault l f ⌝ }
+fn ignores_fault(words: &Words, f: FaultKind) -> bool
+    ensures { λ r. ⌜ Reads (now (words .entry)) (λ (l : Link). ignoresFault l f) r ⌝ }
 {
     match f {
-        FaultKind::ParityFault => ignores_most(l),
-        FaultKind::EscapeFault => ignores_most(l),
-        FaultKind::DisconnectFault => ignores_all(l),
+        FaultKind::ParityFault => ignores_most(words),
+        FaultKind::EscapeFault => ignores_most(words),
+        FaultKind::DisconnectFault => ignores_all(words),
     }
 }
 
-pub(crate) fn fault_event(l: Link, f: FaultKind) -> Event
-    ensures { λ r. ⌜ r ≡ faultEvent l f ⌝ }
+pub(crate) fn fault_event(words: &Words, f: FaultKind) -> Event
+    ensures { λ r. ⌜ Reads (now (words .entry)) (λ (l : Link). faultEvent l f) r ⌝ }
 {
-    if ignores_fault(l, f) {
+    if ignores_fault(words, f) {
         Event::Quiet
     } else {
         Event::Fault
@@ -200,26 +183,11 @@ pub(crate) fn fault_event(l: Link, f: FaultKind) -> Event
 }
 
 // A tick, before the move: the timer counts.
-pub(crate) fn count(l: Link) -> Link
-    requires { ⌜ l .stage .timer < 255 ⌝ }
-    ensures { λ r. ⌜ r ≡ counted l ⌝ }
+pub(crate) fn count(words: &mut Words)
+    requires { ⌜ wordAt (now words) TIMER < 255 ⌝ }
+    ensures { λ r. ⌜ Writes (now (words .entry)) counted (now (words .exit)) ⌝ }
 {
-    let stage = l.stage;
-    let state = stage.state;
-    let timer = stage.timer;
-    let gotnull = stage.gotnull;
-    let nullsent = stage.nullsent;
-    if moves::counts_ticks(state) {
-        ends::with_stage(
-            l,
-            Stage {
-                state,
-                timer: timer + 1,
-                gotnull,
-                nullsent,
-            },
-        )
-    } else {
-        l
+    if moves::counts_ticks(words[STATE]) {
+        words[TIMER] = words[TIMER] + 1;
     }
 }

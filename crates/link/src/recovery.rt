@@ -1,173 +1,138 @@
 // Going to ErrorReset by a move, settling after an event, and reset (01, Going to ErrorReset by a move; Reset).
 ghost use mathlib.Core.Path.{_≡_};
-ghost use mathlib.Core.Bool.{_||_, not};
+ghost use Prim.Native.Nat.{_<_};
 ghost use lib.ListN.{length};
+ghost use Rattle.words.specs.Words.{wordAt, narrow};
+ghost use Rattle.link.specs.Records.{Link};
 ghost use Rattle.vocabulary.specs.Choice.{pick};
 ghost use Rattle.vocabulary.specs.NChars.{EEP};
-ghost use Rattle.store.specs.Changes.{freshStore, putStore, putPlaces};
-ghost use Rattle.link.specs.Recovery.{cleared, closedLink, closedPlaces, discardedLink, restDiscarded};
-ghost use Rattle.link.specs.Recovery.{goesDown, movesTo, settles};
-ghost use Rattle.link.specs.Reset.{emptied, emptiedPlaces, resets};
+ghost use Rattle.store.specs.Changes.{freshStore, putStore};
+ghost use Rattle.link.specs.Ends.{withRx};
+ghost use Rattle.link.specs.Recovery.{cleared, closedLink, closedPlaces, restDiscarded, goesDown, movesTo, settles};
+ghost use Rattle.link.specs.Reset.{emptiedPlaces, resets};
+ghost use Rattle.link.specs.Table.{stateOf};
+ghost use Rattle.link.specs.LinkWords.{STATE};
+ghost use Rattle.link.specs.InPlace.{Reads, Writes, SmallEnough, Settles};
 use crate::Event;
-use crate::Link;
-use crate::LinkState;
-use crate::Moved;
-use crate::Offer;
-use crate::Stage;
-use crate::ends;
+use crate::fields;
+use crate::fields::CODE;
+use crate::fields::DISCARDING;
+use crate::fields::GIVEN_OUT;
+use crate::fields::GOT_NULL;
+use crate::fields::HELD;
+use crate::fields::NULL_SENT;
+use crate::fields::OFFERED;
+use crate::fields::PUT;
+use crate::fields::SENT;
+use crate::fields::STATE;
+use crate::fields::STORED;
+use crate::fields::TAKEN;
+use crate::fields::TIMER;
+use crate::fields::Words;
 use crate::moves;
-use store::Found;
-use store::Store;
 
-fn clear(l: Link) -> Link
-    ensures { λ r. ⌜ r ≡ cleared l ⌝ }
+fn clear(words: &mut Words)
+    ensures { λ r. ⌜ Writes (now (words .entry)) cleared (now (words .exit)) ⌝ }
 {
-    let controls = l.controls;
-    let credit = ends::no_credit();
-    let marks = l.marks;
-    let rx = l.rx;
-    let tx = l.tx;
-    Link {
-        stage: Stage {
-            state: LinkState::ErrorReset,
-            timer: 0,
-            gotnull: false,
-            nullsent: false,
-        },
-        controls,
-        credit,
-        marks,
-        offer: Offer::Absent,
-        rx,
-        tx,
-    }
+    words[STATE] = 0;
+    words[TIMER] = 0;
+    words[GOT_NULL] = 0;
+    words[NULL_SENT] = 0;
+    words[HELD] = 0;
+    words[GIVEN_OUT] = 0;
+    words[OFFERED] = 0;
+    words[CODE] = 0;
 }
 
 // An unfinished packet in the receive store is closed.
-fn close(l: Link, rx: &mut [u16]) -> Link
-    ensures { λ r. ⌜ (r ≡ closedLink (length (now (rx .entry))) l) × (now (rx .exit) ≡ closedPlaces (now (rx .entry)) l) ⌝ }
+fn close(words: &mut Words, rx: &mut [u16])
+    ensures { λ r. ⌜ (SmallEnough (now (rx .entry)) → Writes (now (words .entry)) (closedLink (length (now (rx .entry)))) (now (words .exit)))
+        × Reads (now (words .entry)) (closedPlaces (now (rx .entry))) (now (rx .exit)) ⌝ }
 {
-    let marks = l.marks;
-    let store = l.rx;
-    if marks.stored {
-        let next = store::put(store, rx, vocabulary::EEP);
-        ends::with_marks(ends::with_rx(l, next), ends::mark_stored(marks, false))
-    } else {
-        l
+    if words::truth(words[STORED]) {
+        let store = fields::rx_in(words);
+        fields::set_rx(words, store::put(store, rx, vocabulary::EEP));
+        words[STORED] = 0;
     }
 }
 
-fn drop_found(l: Link, tx: &[u16], f: Found) -> Link
-    ensures { λ r. ⌜ r ≡ discardedLink (length (now (tx .entry))) l f ⌝ }
+// The rest of an unfinished packet in the transmit store is discarded; where its end is not there, later puts are too.
+fn discard_rest(words: &mut Words, tx: &[u16]) -> u32
+    ensures { λ r. ⌜ (SmallEnough (now (tx .entry)) → Writes (now (words .entry)) (λ (l : Link). restDiscarded (now (tx .entry)) l .link) (now (words .exit)))
+        × Reads (now (words .entry)) (λ (l : Link). narrow (restDiscarded (now (tx .entry)) l .discarded)) r ⌝ }
 {
-    let marks = l.marks;
-    let store = l.tx;
-    let next = store::drop_first(store, tx, f.count);
-    let sent = ends::mark_sent(marks, false);
-    let discarding = if_not(marks.discarding, f.ended);
-    ends::with_marks(
-        ends::with_tx(l, next),
-        ends::mark_discarding(sent, discarding),
-    )
-}
-
-// Puts are discarded where they were already, or where no end was found.
-fn if_not(discarding: bool, ended: bool) -> bool
-    ensures { λ r. ⌜ r ≡ discarding || not ended ⌝ }
-{
-    if discarding { true } else { !ended }
-}
-
-// The rest of an unfinished packet in the transmit store is discarded.
-fn discard_rest(l: Link, tx: &[u16]) -> Moved
-    ensures { λ r. ⌜ r ≡ restDiscarded (now (tx .entry)) l ⌝ }
-{
-    let marks = l.marks;
-    let store = l.tx;
-    if marks.sent {
-        let f = store::find_end(store, tx);
-        let link = drop_found(l, tx, f);
-        Moved {
-            link,
-            discarded: f.count,
+    if words::truth(words[SENT]) {
+        let store = fields::tx_in(words);
+        let found = store::find_end(store, tx);
+        fields::set_tx(words, store::drop_found(store, tx, found));
+        words[SENT] = 0;
+        if !found.ended {
+            words[DISCARDING] = 1;
         }
+        words::narrow(found.count)
     } else {
-        Moved {
-            link: l,
-            discarded: 0,
-        }
+        0
     }
 }
 
-fn go_down(l: Link, rx: &mut [u16], tx: &[u16]) -> Moved
-    ensures { λ r. ⌜ record { moved = r; rx = now (rx .exit) } ≡ goesDown (record { link = l; rx = now (rx .entry); tx = now (tx .entry) }) ⌝ }
+fn go_down(words: &mut Words, rx: &mut [u16], tx: &[u16]) -> u32
+    ensures { λ r. ⌜ Settles (now (words .entry)) (now (rx .entry)) (now (tx .entry)) goesDown (now (words .exit)) r (now (rx .exit)) ⌝ }
 {
-    let closed = close(clear(l), rx);
-    discard_rest(closed, tx)
+    clear(words);
+    close(words, rx);
+    discard_rest(words, tx)
 }
 
-fn move_to(s: LinkState, l: Link, rx: &mut [u16], tx: &[u16]) -> Moved
-    ensures { λ r. ⌜ record { moved = r; rx = now (rx .exit) } ≡ movesTo s (record { link = l; rx = now (rx .entry); tx = now (tx .entry) }) ⌝ }
+// The move to another state: rare and large, so apart from `settle`, which is small and in every call.
+fn move_to(next: u32, words: &mut Words, rx: &mut [u16], tx: &[u16]) -> u32
+    ensures { λ r. ⌜ (next < 6 → (next ≡ wordAt (now (words .entry)) STATE → ⊥) →
+        Settles (now (words .entry)) (now (rx .entry)) (now (tx .entry)) (movesTo (stateOf next)) (now (words .exit)) r (now (rx .exit))) ⌝ }
 {
-    let stage = l.stage;
-    let state = stage.state;
-    if moves::is_state(s, state) {
-        Moved {
-            link: l,
-            discarded: 0,
-        }
+    if next == 0 {
+        go_down(words, rx, tx)
     } else {
-        if moves::is_state(s, LinkState::ErrorReset) {
-            go_down(l, rx, tx)
-        } else {
-            Moved {
-                link: moves::enter(l, s),
-                discarded: 0,
-            }
-        }
+        moves::enter(words, next);
+        0
     }
 }
 
 // After an event's effect: the one move that fits, if any.
-pub(crate) fn settle(e: Event, l: Link, rx: &mut [u16], tx: &[u16]) -> Moved
-    ensures { λ r. ⌜ record { moved = r; rx = now (rx .exit) } ≡ settles e (record { link = l; rx = now (rx .entry); tx = now (tx .entry) }) ⌝ }
+pub(crate) fn settle(e: Event, words: &mut Words, rx: &mut [u16], tx: &[u16]) -> u32
+    requires { ⌜ wordAt (now words) STATE < 6 ⌝ }
+    ensures { λ r. ⌜ Settles (now (words .entry)) (now (rx .entry)) (now (tx .entry)) (settles e) (now (words .exit)) r (now (rx .exit)) ⌝ }
 {
-    let next = moves::next_state(l, e);
-    move_to(next, l, rx, tx)
-}
-
-fn empty_stores(l: Link, rx: &mut [u16]) -> Link
-    ensures { λ r. ⌜ (r ≡ emptied (length (now (rx .entry))) l) × (now (rx .exit) ≡ emptiedPlaces (now (rx .entry)) l) ⌝ }
-{
-    let marks = l.marks;
-    let received = empty_receive(marks.taken, rx);
-    let ends_only = ends::mark_sent(ends::mark_stored(marks, false), false);
-    let left = ends::mark_discarding(ends_only, marks.put);
-    ends::with_marks(
-        ends::with_tx(ends::with_rx(l, received), store::fresh()),
-        left,
-    )
+    let next = moves::next_state(e, words);
+    if next == words[STATE] {
+        0
+    } else {
+        move_to(next, words, rx, tx)
+    }
 }
 
 // An empty receive store, but for an EEP behind a packet of which the host has taken a part.
-fn empty_receive(taken: bool, rx: &mut [u16]) -> Store
-    ensures { λ r. ⌜ (r ≡ pick taken (putStore (length (now (rx .entry))) freshStore) freshStore) × (now (rx .exit) ≡ pick taken (putPlaces (now (rx .entry)) freshStore EEP) (now (rx .entry))) ⌝ }
+fn empty_receive(words: &mut Words, rx: &mut [u16])
+    ensures { λ r. ⌜ (SmallEnough (now (rx .entry)) → Writes (now (words .entry)) (λ (l : Link). withRx l (pick (l .marks .taken) (putStore (length (now (rx .entry))) freshStore EEP) freshStore)) (now (words .exit)))
+        × Reads (now (words .entry)) (emptiedPlaces (now (rx .entry))) (now (rx .exit)) ⌝ }
 {
-    if taken {
-        store::put(store::fresh(), rx, vocabulary::EEP)
+    if words::truth(words[TAKEN]) {
+        fields::set_rx(words, store::put(store::fresh(), rx, vocabulary::EEP));
     } else {
-        store::fresh()
+        fields::set_rx(words, store::fresh());
     }
 }
 
 // Reset: to ErrorReset from any state, and both stores emptied.
-pub(crate) fn reset_all(l: Link, rx: &mut [u16]) -> Moved
-    ensures { λ r. ⌜ record { moved = r; rx = now (rx .exit) } ≡ resets (now (rx .entry)) l ⌝ }
+pub(crate) fn reset_all(words: &mut Words, rx: &mut [u16]) -> u32
+    ensures { λ r. ⌜ (SmallEnough (now (rx .entry)) → Writes (now (words .entry)) (λ (l : Link). resets (now (rx .entry)) l .moved .link) (now (words .exit)))
+        × Reads (now (words .entry)) (λ (l : Link). narrow (resets (now (rx .entry)) l .moved .discarded)) r
+        × Reads (now (words .entry)) (λ (l : Link). resets (now (rx .entry)) l .rx) (now (rx .exit)) ⌝ }
 {
-    let store = l.tx;
-    let link = empty_stores(clear(l), rx);
-    Moved {
-        link,
-        discarded: store.len,
-    }
+    let transmit = fields::tx_in(words);
+    clear(words);
+    empty_receive(words, rx);
+    fields::set_tx(words, store::fresh());
+    words[STORED] = 0;
+    words[SENT] = 0;
+    words[DISCARDING] = words[PUT];
+    words::narrow(transmit.len)
 }

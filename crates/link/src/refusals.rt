@@ -1,172 +1,190 @@
-// What each call refuses (01, The ten refusals): in the paper's order, the outermost first.
+// What the calls test (01, The ten refusals). Each test is small, and every call names those that it makes: a function that
+// gathered them would be called and not inlined.
 ghost use mathlib.Core.Path.{_≡_};
 ghost use mathlib.Core.Bool.{_||_, _&&_, not};
-ghost use Rattle.link.specs.Refusals.{badHeld, badGiven, badTimer, badRecord, badRxSize, badTxSize, lacksRoom};
-ghost use Rattle.link.specs.Refusals.{badReceive, bothRefusal, receiveRefusal, putRefusal, takeRefusal};
-ghost use Rattle.link.specs.Refusals.{offerRefusal};
-ghost use Rattle.store.specs.Ring.{badStore, full};
-use crate::GivenOut;
-use crate::Held;
-use crate::Link;
-use crate::LinkState;
+ghost use lib.Dec.{eqb, ltb};
+ghost use lib.ListN.{length};
+ghost use Rattle.words.specs.Words.{wordAt, truth, truthWord};
+ghost use Rattle.store.specs.Ring.{badStore, empty, full};
+ghost use Rattle.time.specs.Time.{badTime};
+ghost use Rattle.link.specs.Records.{Link};
+ghost use Rattle.link.specs.Moves.{stateNumber};
+ghost use Rattle.link.specs.Table.{stateOf};
+ghost use Rattle.link.specs.Send.{offerNumber, offerValue};
+ghost use Rattle.link.specs.Refusals.{badRecord, badRxSize, badTxSize, lacksRoom, badReceive};
+ghost use Rattle.link.specs.LinkWords.{STATE, isLink, timeOf, isTime, offerOf};
+ghost use Rattle.link.specs.LinkCalls.{noFault};
+ghost use Rattle.link.specs.InPlace.{Reads};
+use crate::fields;
+use crate::fields::AUTO;
+use crate::fields::CODE;
+use crate::fields::DISABLED;
+use crate::fields::DISCARDING;
+use crate::fields::GIVEN_OUT;
+use crate::fields::GOT_NULL;
+use crate::fields::HELD;
+use crate::fields::NULL_SENT;
+use crate::fields::OFFERED;
+use crate::fields::PUT;
+use crate::fields::SENT;
+use crate::fields::START;
+use crate::fields::STATE;
+use crate::fields::STORED;
+use crate::fields::TAKEN;
+use crate::fields::TIMER;
+use crate::fields::Words;
 use crate::moves;
-use time::Time;
-use vocabulary::Token;
 
-fn or(a: bool, b: bool) -> bool
-    ensures { λ r. ⌜ r ≡ a || b ⌝ }
+fn no_state(word: u32) -> bool
+    ensures { λ r. ⌜ r ≡ not (eqb word (stateNumber (stateOf word))) ⌝ }
 {
-    if a { true } else { b }
+    5 < word
 }
 
-fn and(a: bool, b: bool) -> bool
-    ensures { λ r. ⌜ r ≡ a && b ⌝ }
+fn no_truth(word: u32) -> bool
+    ensures { λ r. ⌜ r ≡ not (eqb word (truthWord (truth word))) ⌝ }
 {
-    if a { b } else { false }
+    1 < word
 }
 
-fn bad_held(s: LinkState, held: Held) -> bool
-    ensures { λ r. ⌜ r ≡ badHeld s (held .0) ⌝ }
+// A Time-Code waits and has eight bits, or none waits and its word is 0.
+fn no_offer(offered: u32, code: u32) -> bool
+    ensures { λ r. ⌜ r ≡ not (eqb offered (offerNumber (offerOf offered code)) && eqb code (offerValue (offerOf offered code))) ⌝ }
 {
-    let n = held.0;
-    let outside = and(!moves::is_state(s, LinkState::Run), !(n == 0));
-    or(56 < n, outside)
+    match offered {
+        0 => code != 0,
+        1 => 255 < code,
+        _ => true,
+    }
 }
 
-fn bad_given(s: LinkState, given: GivenOut) -> bool
-    ensures { λ r. ⌜ r ≡ badGiven s (given .0) ⌝ }
+// Whether the words are no end's: a number that no state, truth or waiting Time-Code has.
+pub(crate) fn no_link(words: &[u32]) -> bool
+    requires { ⌜ length (now words) ≡ 20 ⌝ }
+    ensures { λ r. ⌜ r ≡ not (isLink (now (words .entry))) ⌝ }
 {
-    let n = given.0;
-    let inside = or(
-        moves::is_state(s, LinkState::Connecting),
-        moves::is_state(s, LinkState::Run),
-    );
-    or(56 < n, and(!inside, !(n == 0)))
+    let last = no_truth(words[DISCARDING]) | no_offer(words[OFFERED], words[CODE]);
+    let taken = no_truth(words[TAKEN]) | (no_truth(words[PUT]) | last);
+    let marks = no_truth(words[STORED]) | (no_truth(words[SENT]) | taken);
+    let controls = no_truth(words[DISABLED])
+        | (no_truth(words[START]) | (no_truth(words[AUTO]) | marks));
+    no_state(words[STATE]) | (no_truth(words[GOT_NULL]) | (no_truth(words[NULL_SENT]) | controls))
 }
 
-fn bad_timer(s: LinkState, timer: u8) -> bool
-    ensures { λ r. ⌜ r ≡ badTimer s timer ⌝ }
+fn bad_held(state: u32, held: u32) -> bool
+    ensures { λ r. ⌜ r ≡ (ltb 56 held || not (eqb state 5) && not (eqb held 0)) ⌝ }
 {
-    moves::limit(s) <= timer
+    (56 < held) | ((state != 5) & (held != 0))
 }
 
-fn bad_record(l: Link) -> bool
-    ensures { λ r. ⌜ r ≡ badRecord l ⌝ }
+fn bad_given(state: u32, given: u32) -> bool
+    ensures { λ r. ⌜ r ≡ (ltb 56 given || not (eqb state 4 || eqb state 5) && not (eqb given 0)) ⌝ }
 {
-    let stage = l.stage;
-    let state = stage.state;
-    let timer = stage.timer;
-    let credit = l.credit;
-    let held = credit.held;
-    let given = credit.given;
-    or(
-        or(bad_held(state, held), bad_given(state, given)),
-        bad_timer(state, timer),
-    )
+    (56 < given) | (!((state == 4) | (state == 5)) & (given != 0))
 }
 
-fn bad_rx_size(size: usize) -> bool
+// The numbers of a record in the state with this number, one by one.
+fn bad_in(words: &Words, state: u32) -> bool
+    ensures { λ r. ⌜ (wordAt (now (words .entry)) STATE ≡ state → Reads (now (words .entry)) badRecord r) ⌝ }
+{
+    if bad_held(state, words[HELD]) {
+        true
+    } else {
+        if bad_given(state, words[GIVEN_OUT]) {
+            true
+        } else {
+            moves::limit(state) <= words[TIMER]
+        }
+    }
+}
+
+// The states with credit have a branch of their own, which is compiled to their limits.
+pub(crate) fn bad_record(words: &Words) -> bool
+    ensures { λ r. ⌜ Reads (now (words .entry)) badRecord r ⌝ }
+{
+    let state = words[STATE];
+    match state {
+        5 => bad_in(words, 5),
+        4 => bad_in(words, 4),
+        _ => bad_in(words, state),
+    }
+}
+
+pub(crate) fn bad_rx_size(size: usize) -> bool
     ensures { λ r. ⌜ r ≡ badRxSize size ⌝ }
 {
-    or(size < 9, 4096 < size)
+    (size < 9) | (4096 < size)
 }
 
-fn bad_tx_size(size: usize) -> bool
+pub(crate) fn bad_tx_size(size: usize) -> bool
     ensures { λ r. ⌜ r ≡ badTxSize size ⌝ }
 {
-    or(size < 1, 4096 < size)
+    (size < 1) | (4096 < size)
 }
 
-fn lacks_room(l: Link, size: usize) -> bool
-    ensures { λ r. ⌜ r ≡ lacksRoom size l ⌝ }
+pub(crate) fn bad_sizes(rx: usize, tx: usize) -> bool
+    ensures { λ r. ⌜ r ≡ (badRxSize rx || badTxSize tx) ⌝ }
 {
-    let credit = l.credit;
-    let given = credit.given;
-    let n = given.0 as usize;
-    let marks = l.marks;
-    let store = l.rx;
-    let free = store::free_places(store, size);
-    and(or(!(n == 0), marks.stored), free < n + 1)
+    bad_rx_size(rx) | bad_tx_size(tx)
 }
 
-fn bad_receive(l: Link, size: usize) -> bool
-    ensures { λ r. ⌜ r ≡ badReceive size l ⌝ }
+// One free place more than is given out is needed.
+fn lacks_room(words: &Words, size: usize) -> bool
+    ensures { λ r. ⌜ Reads (now (words .entry)) (lacksRoom size) r ⌝ }
 {
-    let store = l.rx;
-    or(store::bad(store, size), lacks_room(l, size))
+    let given = words::wide(words[GIVEN_OUT]);
+    let free = store::free_places(fields::rx_in(words), size);
+    ((given != 0) | words::truth(words[STORED])) & (free <= given)
 }
 
-fn bad_stores(l: Link, rx: usize, tx: usize) -> bool
-    ensures { λ r. ⌜ r ≡ badReceive rx l || badStore tx (l .tx) ⌝ }
+pub(crate) fn bad_receive(words: &Words, size: usize) -> bool
+    ensures { λ r. ⌜ Reads (now (words .entry)) (badReceive size) r ⌝ }
 {
-    let store = l.tx;
-    or(bad_receive(l, rx), store::bad(store, tx))
+    if store::bad(fields::rx_in(words), size) {
+        true
+    } else {
+        lacks_room(words, size)
+    }
 }
 
-// Tick, fault, control change, send, reset.
-pub(crate) fn both(l: Link, rx: usize, tx: usize) -> u8
-    ensures { λ r. ⌜ r ≡ bothRefusal rx tx l ⌝ }
+pub(crate) fn bad_transmit(words: &Words, size: usize) -> bool
+    ensures { λ r. ⌜ Reads (now (words .entry)) (λ (l : Link). badStore size (l .tx)) r ⌝ }
 {
-    let sized = vocabulary::refuse(bad_stores(l, rx, tx), vocabulary::STATE, 0);
-    let sizes = vocabulary::refuse(
-        or(bad_rx_size(rx), bad_tx_size(tx)),
-        vocabulary::STORE,
-        sized,
-    );
-    vocabulary::refuse(bad_record(l), vocabulary::STATE, sizes)
+    store::bad(fields::tx_in(words), size)
 }
 
-pub(crate) fn receive(l: Link, rx: usize, tx: usize, t: Time, token: Token) -> u8
-    ensures { λ r. ⌜ r ≡ receiveRefusal rx tx l t token ⌝ }
+pub(crate) fn bad_stores(words: &Words, rx: usize, tx: usize) -> bool
+    ensures { λ r. ⌜ Reads (now (words .entry)) (λ (l : Link). badReceive rx l || badStore tx (l .tx)) r ⌝ }
 {
-    let char = vocabulary::refuse(vocabulary::bad_char(token), vocabulary::CHAR, 0);
-    let sized = vocabulary::refuse(bad_stores(l, rx, tx), vocabulary::STATE, char);
-    let sizes = vocabulary::refuse(
-        or(bad_rx_size(rx), bad_tx_size(tx)),
-        vocabulary::STORE,
-        sized,
-    );
-    vocabulary::refuse(or(bad_record(l), time::bad(t)), vocabulary::STATE, sizes)
+    if bad_receive(words, rx) {
+        true
+    } else {
+        bad_transmit(words, tx)
+    }
 }
 
-fn no_place(l: Link, tx: usize) -> bool
-    ensures { λ r. ⌜ r ≡ not (l .marks .discarding) && full tx (l .tx) ⌝ }
+// A time record's words: a count up to 63, and a truth.
+pub(crate) fn bad_time(time: &[u32]) -> bool
+    requires { ⌜ length (now time) ≡ 2 ⌝ }
+    ensures { λ r. ⌜ r ≡ (not (isTime (now (time .entry))) || badTime (timeOf (now (time .entry)))) ⌝ }
 {
-    let marks = l.marks;
-    let store = l.tx;
-    and(!marks.discarding, store::is_full(store, tx))
+    no_truth(time[1]) | (63 < time[0])
 }
 
-pub(crate) fn put(l: Link, tx: usize, n: u16) -> u8
-    ensures { λ r. ⌜ r ≡ putRefusal tx l n ⌝ }
+pub(crate) fn no_place(words: &Words, tx: usize) -> bool
+    ensures { λ r. ⌜ Reads (now (words .entry)) (λ (l : Link). not (l .marks .discarding) && full tx (l .tx)) r ⌝ }
 {
-    let store = l.tx;
-    let full = vocabulary::refuse(no_place(l, tx), vocabulary::FULL, 0);
-    let char = vocabulary::refuse(vocabulary::above_eep(n), vocabulary::CHAR, full);
-    let sized = vocabulary::refuse(store::bad(store, tx), vocabulary::STATE, char);
-    let sizes = vocabulary::refuse(bad_tx_size(tx), vocabulary::STORE, sized);
-    vocabulary::refuse(bad_record(l), vocabulary::STATE, sizes)
+    !words::truth(words[DISCARDING]) & store::is_full(fields::tx_in(words), tx)
 }
 
-pub(crate) fn take(l: Link, rx: usize) -> u8
-    ensures { λ r. ⌜ r ≡ takeRefusal rx l ⌝ }
+pub(crate) fn is_empty(words: &Words) -> bool
+    ensures { λ r. ⌜ Reads (now (words .entry)) (λ (l : Link). empty (l .rx)) r ⌝ }
 {
-    let store = l.rx;
-    let empty = vocabulary::refuse(store::is_empty(store), vocabulary::EMPTY, 0);
-    let sized = vocabulary::refuse(bad_receive(l, rx), vocabulary::STATE, empty);
-    let sizes = vocabulary::refuse(bad_rx_size(rx), vocabulary::STORE, sized);
-    vocabulary::refuse(bad_record(l), vocabulary::STATE, sizes)
+    store::is_empty(fields::rx_in(words))
 }
 
-pub(crate) fn offer(l: Link) -> u8
-    ensures { λ r. ⌜ r ≡ offerRefusal l ⌝ }
+pub(crate) fn no_fault(kind: u32) -> bool
+    ensures { λ r. ⌜ r ≡ noFault kind ⌝ }
 {
-    let stage = l.stage;
-    let state = stage.state;
-    let outside = vocabulary::refuse(
-        !moves::is_state(state, LinkState::Run),
-        vocabulary::NOTRUN,
-        0,
-    );
-    vocabulary::refuse(bad_record(l), vocabulary::STATE, outside)
+    (kind < 5) | (7 < kind)
 }

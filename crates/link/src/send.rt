@@ -1,26 +1,27 @@
 // What goes out (01, Send).
 ghost use mathlib.Core.Path.{_≡_};
-ghost use lib.ListN.{length};
-ghost use Prim.Native.Nat.{_+_, _≤_};
 ghost use Rattle.vocabulary.specs.Choice.{pick};
 ghost use Rattle.vocabulary.specs.declared.Token.{Token};
+ghost use Rattle.link.specs.Records.{Link, Absent};
+ghost use Rattle.link.specs.Ends.{withOffer};
 ghost use Rattle.link.specs.Credit.{withGiven};
-ghost use Rattle.link.specs.Send.{sentKind, sentValue, offerNumber, offerValue};
-ghost use Rattle.link.specs.Send.{grants, hasNChar, choiceInRun, choiceWith};
-ghost use Rattle.link.specs.Send.{choice, nullSent, nCharSent, bookedToken, booked, sending};
-use crate::GivenOut;
-use crate::Link;
+ghost use Prim.Native.Nat.{_+_};
+ghost use Rattle.link.specs.Send.{sentKind, sentValue, grants, hasNChar, choiceInRun, choiceWith};
+ghost use Rattle.link.specs.Send.{choice, nullSent, nCharSent, bookedToken, booked};
+ghost use Rattle.link.specs.InPlace.{ReadsGood, Writes, WritesGood, SmallEnough};
 use crate::LinkState;
-use crate::Offer;
-use crate::Sending;
 use crate::Sent;
-use crate::Stage;
 use crate::counters;
-use crate::ends;
+use crate::fields;
+use crate::fields::CODE;
+use crate::fields::NULL_SENT;
+use crate::fields::OFFERED;
+use crate::fields::SENT;
+use crate::fields::Words;
 use vocabulary::Token;
 
 // What is sent, by number: 0 nothing, else the token's.
-pub fn sent_kind(s: Sent) -> u8
+pub(crate) fn sent_kind(s: Sent) -> u8
     ensures { λ r. ⌜ r ≡ sentKind s ⌝ }
 {
     match s {
@@ -29,7 +30,7 @@ pub fn sent_kind(s: Sent) -> u8
     }
 }
 
-pub fn sent_value(s: Sent) -> u16
+pub(crate) fn sent_value(s: Sent) -> u16
     ensures { λ r. ⌜ r ≡ sentValue s ⌝ }
 {
     match s {
@@ -38,68 +39,43 @@ pub fn sent_value(s: Sent) -> u16
     }
 }
 
-// 0 where no Time-Code waits, 1 where one does.
-pub fn offer_number(o: Offer) -> u8
-    ensures { λ r. ⌜ r ≡ offerNumber o ⌝ }
+fn grants_fct(words: &Words, size: usize) -> bool
+    ensures { λ r. ⌜ ReadsGood (now (words .entry)) (grants size) r ⌝ }
 {
-    match o {
-        Offer::Absent => 0,
-        Offer::Code(_) => 1,
-    }
+    let store = fields::rx_in(words);
+    counters::may_grant(fields::given_in(words), store::free_places(store, size))
 }
 
-// The waiting Time-Code; 0 where none waits.
-pub fn offer_value(o: Offer) -> u8
-    ensures { λ r. ⌜ r ≡ offerValue o ⌝ }
+fn has_n_char(words: &Words) -> bool
+    ensures { λ r. ⌜ ReadsGood (now (words .entry)) hasNChar r ⌝ }
 {
-    match o {
-        Offer::Absent => 0,
-        Offer::Code(v) => v,
-    }
-}
-
-fn grants_fct(l: Link, size: usize) -> bool
-    ensures { λ r. ⌜ r ≡ grants size l ⌝ }
-{
-    let credit = l.credit;
-    let given = credit.given;
-    let store = l.rx;
-    counters::may_grant(given, store::free_places(store, size))
-}
-
-fn has_n_char(l: Link) -> bool
-    ensures { λ r. ⌜ r ≡ hasNChar l ⌝ }
-{
-    let credit = l.credit;
-    let held = credit.held;
-    let store = l.tx;
-    if counters::none_held(held) {
+    if counters::none_held(fields::held_in(words)) {
         false
     } else {
-        !store::is_empty(store)
+        !store::is_empty(fields::tx_in(words))
     }
 }
 
-fn choose_in_run(l: Link, size: usize, tx: &[u16]) -> Token
-    ensures { λ r. ⌜ r ≡ choiceInRun size (now (tx .entry)) l ⌝ }
+fn choose_in_run(words: &Words, size: usize, tx: &[u16]) -> Token
+    ensures { λ r. ⌜ ReadsGood (now (words .entry)) (choiceInRun size (now (tx .entry))) r ⌝ }
 {
-    if grants_fct(l, size) {
+    if grants_fct(words, size) {
         return Token::Fct;
     }
-    let store = l.tx;
-    if has_n_char(l) {
-        Token::NChar(store::look(store, tx))
+    if has_n_char(words) {
+        Token::NChar(store::look(fields::tx_in(words), tx))
     } else {
         Token::Null
     }
 }
 
-fn choose_with(o: Offer, l: Link, size: usize, tx: &[u16]) -> Token
-    ensures { λ r. ⌜ r ≡ choiceWith o size (now (tx .entry)) l ⌝ }
+fn choose_with(words: &Words, size: usize, tx: &[u16]) -> Token
+    ensures { λ r. ⌜ ReadsGood (now (words .entry)) (λ (l : Link). choiceWith (l .offer) size (now (tx .entry)) l) r ⌝ }
 {
-    match o {
-        Offer::Absent => choose_in_run(l, size, tx),
-        Offer::Code(v) => Token::TimeCode(v),
+    if words::truth(words[OFFERED]) {
+        Token::TimeCode(words::byte(words[CODE]))
+    } else {
+        choose_in_run(words, size, tx)
     }
 }
 
@@ -109,91 +85,67 @@ fn fct_or_null(may: bool) -> Token
     if may { Token::Fct } else { Token::Null }
 }
 
-fn choose(l: Link, size: usize, tx: &[u16]) -> Sent
-    ensures { λ r. ⌜ r ≡ choice size (now (tx .entry)) l ⌝ }
+pub(crate) fn choose(words: &Words, size: usize, tx: &[u16]) -> Sent
+    ensures { λ r. ⌜ ReadsGood (now (words .entry)) (choice size (now (tx .entry))) r ⌝ }
 {
-    let stage = l.stage;
-    let state = stage.state;
-    let offer = l.offer;
+    let state = fields::state_in(words);
     match state {
         LinkState::ErrorReset => Sent::Silence,
         LinkState::ErrorWait => Sent::Silence,
         LinkState::Ready => Sent::Silence,
         LinkState::Started => Sent::Sends(Token::Null),
-        LinkState::Connecting => Sent::Sends(fct_or_null(grants_fct(l, size))),
-        LinkState::Run => Sent::Sends(choose_with(offer, l, size, tx)),
+        LinkState::Connecting => Sent::Sends(fct_or_null(grants_fct(words, size))),
+        LinkState::Run => Sent::Sends(choose_with(words, size, tx)),
     }
 }
 
-fn null_sent(l: Link) -> Link
-    ensures { λ r. ⌜ r ≡ nullSent l ⌝ }
+fn null_sent(words: &mut Words)
+    ensures { λ r. ⌜ Writes (now (words .entry)) nullSent (now (words .exit)) ⌝ }
 {
-    let stage = l.stage;
-    let state = stage.state;
-    let timer = stage.timer;
-    let gotnull = stage.gotnull;
-    ends::with_stage(
-        l,
-        Stage {
-            state,
-            timer,
-            gotnull,
-            nullsent: true,
-        },
-    )
+    fields::set_truth(words, NULL_SENT, true);
 }
 
-fn n_char_sent(l: Link, tx: &[u16], n: u16) -> Link
-    ensures { λ r. ⌜ r ≡ nCharSent (length (now (tx .entry))) l n ⌝ }
+fn fct_sent(words: &mut Words)
+    ensures { λ r. ⌜ WritesGood (now (words .entry)) (λ (l : Link). withGiven l (l .credit .given .0 + 8)) (now (words .exit)) ⌝ }
 {
-    let credit = l.credit;
-    let held = credit.held;
-    let marks = l.marks;
-    let store = l.tx;
-    let next = store::drop_first(store, tx, 1);
-    let sent = ends::mark_sent(marks, !vocabulary::is_end(n));
-    let fewer = counters::with_held(l, counters::one_held_less(held));
-    ends::with_marks(ends::with_tx(fewer, next), sent)
+    let given = fields::given_in(words);
+    fields::set_given(words, counters::eight_given_more(given));
 }
 
-fn fct_sent(l: Link) -> Link
-    requires { ⌜ l .credit .given .0 ≤ 56 ⌝ }
-    ensures { λ r. ⌜ r ≡ withGiven l (l .credit .given .0 + 8) ⌝ }
+fn n_char_sent(words: &mut Words, tx: &[u16], n: u16)
+    ensures { λ r. ⌜ (SmallEnough (now (tx .entry)) → WritesGood (now (words .entry)) (λ (l : Link). nCharSent (now (tx .entry)) l n) (now (words .exit))) ⌝ }
 {
-    let credit = l.credit;
-    let given = credit.given;
-    let more = given.0 + 8;
-    counters::with_given(l, GivenOut(more))
+    let held = fields::held_in(words);
+    fields::set_held(words, counters::one_held_less(held));
+    let store = fields::tx_in(words);
+    fields::set_tx(words, store::drop_first(store, tx));
+    fields::set_truth(words, SENT, !vocabulary::is_end(n));
 }
 
-fn book(l: Link, tx: &[u16], t: Token) -> Link
-    requires { ⌜ l .credit .given .0 ≤ 56 ⌝ }
-    ensures { λ r. ⌜ r ≡ bookedToken (length (now (tx .entry))) l t ⌝ }
+fn time_code_sent(words: &mut Words)
+    ensures { λ r. ⌜ Writes (now (words .entry)) (λ (l : Link). withOffer l Absent) (now (words .exit)) ⌝ }
+{
+    words[OFFERED] = 0;
+    words[CODE] = 0;
+}
+
+fn book_token(words: &mut Words, tx: &[u16], t: Token)
+    ensures { λ r. ⌜ (SmallEnough (now (tx .entry)) → WritesGood (now (words .entry)) (λ (l : Link). bookedToken (now (tx .entry)) l t) (now (words .exit))) ⌝ }
 {
     match t {
-        Token::Null => null_sent(l),
-        Token::Fct => fct_sent(l),
-        Token::NChar(n) => n_char_sent(l, tx, n),
-        Token::TimeCode(_) => ends::with_offer(l, Offer::Absent),
+        Token::Null => null_sent(words),
+        Token::Fct => fct_sent(words),
+        Token::NChar(n) => n_char_sent(words, tx, n),
+        Token::TimeCode(_) => time_code_sent(words),
     }
 }
 
-fn book_sent(l: Link, tx: &[u16], s: Sent) -> Link
-    requires { ⌜ l .credit .given .0 ≤ 56 ⌝ }
-    ensures { λ r. ⌜ r ≡ booked (length (now (tx .entry))) l s ⌝ }
+// What is booked for what goes out.
+pub(crate) fn book(words: &mut Words, tx: &[u16], s: Sent)
+    ensures { λ r. ⌜ (SmallEnough (now (tx .entry)) → WritesGood (now (words .entry)) (λ (l : Link). booked (now (tx .entry)) l s) (now (words .exit))) ⌝ }
 {
     match s {
-        Sent::Silence => l,
-        Sent::Sends(t) => book(l, tx, t),
+        Sent::Silence => {}
+        Sent::Sends(t) => book_token(words, tx, t),
     }
-}
-
-// A send, before the move: the token that is due, and what is booked for it.
-pub(crate) fn send_one(l: Link, size: usize, tx: &[u16]) -> Sending
-    requires { ⌜ l .credit .given .0 ≤ 56 ⌝ }
-    ensures { λ r. ⌜ r ≡ sending size (now (tx .entry)) l ⌝ }
-{
-    let sent = choose(l, size, tx);
-    let link = book_sent(l, tx, sent);
-    Sending { link, sent }
 }

@@ -2,216 +2,228 @@
 // mid-packet, and the far host finds the packet closed by an EEP. Each line says what was done and what
 // the two ends answered.
 use libc::STDOUT_FILENO;
-use link::Controls;
-use link::FaultKind;
-use link::Link;
-use link::Sent;
-use time::Time;
-use vocabulary::Token;
+use link::calls;
+use link::fields::STATE;
+use link::fields::TIME_WORDS;
+use link::fields::TimeWords;
+use link::fields::WORDS;
+use link::fields::Words;
 
 fn say(text: &[u8]) {
     io::write_all(STDOUT_FILENO, text);
 }
 
-fn say_number(n: u64) {
-    io::print_decimal(STDOUT_FILENO, n);
+fn say_number(n: u32) {
+    io::print_decimal(STDOUT_FILENO, n as u64);
 }
 
-fn say_states(a: Link, b: Link) {
-    let stage = a.stage;
-    let other = b.stage;
-    let near = stage.state;
-    let far = other.state;
+fn say_states(near: &Words, far: &Words) {
     say(b": near in state ");
-    say_number(link::moves::state_number(near) as u64);
+    say_number(near[STATE]);
     say(b", far in state ");
-    say_number(link::moves::state_number(far) as u64);
+    say_number(far[STATE]);
     say(b"\n");
 }
 
-// An end after `count` ticks.
-fn ticks(l: Link, rx: &mut [u16], tx: &[u16], count: u32) -> Link {
-    let mut now = l;
+// `count` ticks to one end.
+fn ticks(end: &mut Words, rx: &mut [u16], tx: &[u16], count: u32) {
+    let mut out = [0u32; 1];
     let mut i = 0u32;
     while i < count {
-        let answer = link::calls::tick(now, rx, tx);
-        now = answer.link;
+        calls::tick(end, rx, tx, &mut out);
         i = i + 1;
     }
-    now
 }
 
-struct Joined {
-    near: Link,
-    far: Link,
-}
-
-// One token from the near end to the far end.
+// One token from the near end to the far end; `time` is the bench's one time record.
 fn pass(
-    p: Joined,
+    near: &mut Words,
     near_rx: &mut [u16],
     near_tx: &[u16],
+    far: &mut Words,
     far_rx: &mut [u16],
     far_tx: &[u16],
-) -> Joined {
-    let from = p.near;
-    let to = p.far;
-    let sent = link::calls::send(from, near_rx, near_tx);
-    let near = sent.link;
-    let token = sent.sent;
-    match token {
-        Sent::Silence => Joined { near, far: to },
-        Sent::Sends(t) => {
-            let got = link::calls::receive(to, far_rx, far_tx, time::fresh(), t);
-            let far = got.link;
-            Joined { near, far }
-        }
+    time: &mut TimeWords,
+) {
+    let mut sent = [0u32; 3];
+    let mut got = [0u32; 2];
+    calls::send(near, near_rx, near_tx, &mut sent);
+    let kind = sent[1];
+    let value = sent[2];
+    if kind != 0 {
+        calls::receive(far, far_rx, far_tx, time, kind, value, &mut got);
     }
-}
-
-fn swapped(p: Joined) -> Joined {
-    let near = p.far;
-    let far = p.near;
-    Joined { near, far }
-}
-
-// One token each way.
-fn turn(
-    p: Joined,
-    near_rx: &mut [u16],
-    near_tx: &[u16],
-    far_rx: &mut [u16],
-    far_tx: &[u16],
-) -> Joined {
-    let there = pass(p, near_rx, near_tx, far_rx, far_tx);
-    swapped(pass(swapped(there), far_rx, far_tx, near_rx, near_tx))
 }
 
 // `count` tokens each way.
 fn exchange(
-    p: Joined,
+    near: &mut Words,
     near_rx: &mut [u16],
     near_tx: &[u16],
+    far: &mut Words,
     far_rx: &mut [u16],
     far_tx: &[u16],
+    time: &mut TimeWords,
     count: u32,
-) -> Joined {
-    let mut now = p;
+) {
     let mut i = 0u32;
     while i < count {
-        now = turn(now, near_rx, near_tx, far_rx, far_tx);
+        pass(near, near_rx, near_tx, far, far_rx, far_tx, time);
+        pass(far, far_rx, far_tx, near, near_rx, near_tx, time);
         i = i + 1;
     }
-    say_number(count as u64);
+    say_number(count);
     say(b" tokens each way");
-    let near = now.near;
-    let far = now.far;
     say_states(near, far);
-    now
 }
 
-fn put(l: Link, tx: &mut [u16], n: u16) -> Link {
-    let answer = link::calls::put(l, tx, n);
+fn put(end: &mut Words, tx: &mut [u16], n: u32) {
+    let mut out = [0u32; 1];
+    let refusal = calls::put(end, tx, n, &mut out);
     say(b"put ");
-    say_number(n as u64);
+    say_number(n);
     say(b": refusal ");
-    say_number(answer.refusal as u64);
+    say_number(refusal);
     say(b", discarded ");
-    say_number(answer.discarded as u64);
+    say_number(out[0]);
     say(b"\n");
-    answer.link
 }
 
-fn take(l: Link, rx: &[u16]) -> Link {
-    let answer = link::calls::take(l, rx);
+fn take(end: &mut Words, rx: &[u16]) {
+    let mut out = [0u32; 2];
+    let refusal = calls::take(end, rx, &mut out);
     say(b"take: refusal ");
-    say_number(answer.refusal as u64);
+    say_number(refusal);
     say(b", N-Char ");
-    say_number(answer.nchar as u64);
+    say_number(out[1]);
     say(b"\n");
-    answer.link
 }
 
-fn started(l: Link, rx: &mut [u16], tx: &[u16]) -> Link {
-    let answer = link::calls::control(
-        l,
-        rx,
-        tx,
-        Controls {
-            disabled: false,
-            start: true,
-            auto: false,
-        },
-    );
-    answer.link
+// A fresh end with LinkStart on.
+fn start(end: &mut Words, rx: &mut [u16], tx: &[u16]) {
+    let mut out = [0u32; 1];
+    calls::fresh(end);
+    calls::control(end, rx, tx, 0, 1, 0, &mut out);
 }
 
 // A whole packet, and the beginning of another.
-fn put_three(l: Link, tx: &mut [u16]) -> Link {
-    let one = put(l, tx, 65);
-    let two = put(one, tx, 256);
-    put(two, tx, 66)
+fn put_three(end: &mut Words, tx: &mut [u16]) {
+    put(end, tx, 65);
+    put(end, tx, 256);
+    put(end, tx, 66);
 }
 
-fn take_three(l: Link, rx: &[u16]) -> Link {
-    let one = take(l, rx);
-    let two = take(one, rx);
-    take(two, rx)
+fn take_three(end: &mut Words, rx: &[u16]) {
+    take(end, rx);
+    take(end, rx);
+    take(end, rx);
 }
 
-// The far end goes down in mid-packet, and its host finds the packet closed.
-fn far_fails(l: Link, rx: &mut [u16], tx: &[u16]) -> Link {
-    let answer = link::calls::fault(l, rx, tx, FaultKind::ParityFault);
-    let down = answer.link;
+// The far end goes down in mid-packet by a parity error, number 5, and its host finds the packet closed.
+fn far_fails(end: &mut Words, rx: &mut [u16], tx: &[u16]) {
+    let mut out = [0u32; 1];
+    calls::fault(end, rx, tx, 5, &mut out);
     say(b"a parity error at the far end\n");
-    take(down, rx)
+    take(end, rx);
 }
 
-// So does the near end, and the rest of its packet is discarded through the end.
-fn near_fails(l: Link, rx: &mut [u16], tx: &mut [u16]) -> Link {
-    let answer = link::calls::fault(l, rx, tx, FaultKind::DisconnectFault);
-    let down = answer.link;
+// So does the near end by a disconnect, number 7, and the rest of its packet is discarded through the end.
+fn near_fails(end: &mut Words, rx: &mut [u16], tx: &mut [u16]) {
+    let mut out = [0u32; 1];
+    calls::fault(end, rx, tx, 7, &mut out);
     say(b"a disconnect at the near end\n");
-    put_three(down, tx)
+    put_three(end, tx);
+}
+
+// Both ends from fresh to Started.
+fn start_both(
+    near: &mut Words,
+    near_rx: &mut [u16],
+    near_tx: &[u16],
+    far: &mut Words,
+    far_rx: &mut [u16],
+    far_tx: &[u16],
+) {
+    start(near, near_rx, near_tx);
+    start(far, far_rx, far_tx);
+    say(b"fresh, LinkStart");
+    say_states(near, far);
+    ticks(near, near_rx, near_tx, 193);
+    ticks(far, far_rx, far_tx, 193);
+    say(b"193 ticks");
+    say_states(near, far);
+}
+
+fn packet_over(
+    near: &mut Words,
+    near_rx: &mut [u16],
+    near_tx: &mut [u16],
+    far: &mut Words,
+    far_rx: &mut [u16],
+    far_tx: &[u16],
+    time: &mut TimeWords,
+) {
+    put_three(near, near_tx);
+    exchange(near, near_rx, near_tx, far, far_rx, far_tx, time, 6);
+    take_three(far, far_rx);
+}
+
+fn both_fail(
+    near: &mut Words,
+    near_rx: &mut [u16],
+    near_tx: &mut [u16],
+    far: &mut Words,
+    far_rx: &mut [u16],
+    far_tx: &[u16],
+) {
+    far_fails(far, far_rx, far_tx);
+    near_fails(near, near_rx, near_tx);
+    say(b"at the end");
+    say_states(near, far);
 }
 
 fn main() {
+    let mut near = [0u32; WORDS];
+    let mut far = [0u32; WORDS];
+    let mut time = [0u32; TIME_WORDS];
     let mut near_rx = [0u16; 16];
     let mut near_tx = [0u16; 16];
     let mut far_rx = [0u16; 16];
     let far_tx = [0u16; 16];
-    let near = started(link::ends::fresh(), &mut near_rx, &near_tx);
-    let far = started(link::ends::fresh(), &mut far_rx, &far_tx);
-    say(b"fresh, LinkStart");
-    say_states(near, far);
-    let near = ticks(near, &mut near_rx, &near_tx, 193);
-    let far = ticks(far, &mut far_rx, &far_tx, 193);
-    say(b"193 ticks");
-    say_states(near, far);
-    let up = exchange(
-        Joined { near, far },
+    calls::fresh_time(&mut time);
+    start_both(
+        &mut near,
         &mut near_rx,
         &near_tx,
+        &mut far,
         &mut far_rx,
         &far_tx,
+    );
+    exchange(
+        &mut near,
+        &mut near_rx,
+        &near_tx,
+        &mut far,
+        &mut far_rx,
+        &far_tx,
+        &mut time,
         4,
     );
-    let near = up.near;
-    let far = up.far;
-    let near = put_three(near, &mut near_tx);
-    let over = exchange(
-        Joined { near, far },
+    packet_over(
+        &mut near,
         &mut near_rx,
-        &near_tx,
+        &mut near_tx,
+        &mut far,
         &mut far_rx,
         &far_tx,
-        6,
+        &mut time,
     );
-    let near = over.near;
-    let far = over.far;
-    let far = take_three(far, &far_rx);
-    let far = far_fails(far, &mut far_rx, &far_tx);
-    let near = near_fails(near, &mut near_rx, &mut near_tx);
-    say(b"at the end");
-    say_states(near, far);
+    both_fail(
+        &mut near,
+        &mut near_rx,
+        &mut near_tx,
+        &mut far,
+        &mut far_rx,
+        &far_tx,
+    );
 }

@@ -15,8 +15,8 @@ use Rattle.link.specs.Hosts.{putStored, puts, putsPlaces, takes}
 use Rattle.link.specs.Calls.{refusedWith, answered, accepted, refused, tickOutcome, controlOutcome, dispatchOf, dispatched}
 use Rattle.link.specs.Calls.{sendRefused, sendOutcome, receiptOf, received, receiveRefused, tokenAccepted, receiveOutcome}
 use Rattle.link.specs.Calls.{putAnswer, putPlacesAfter, takeAccepted, takeRefused, takeAnswer}
-use Rattle.link_joined.specs.Pair.{quietly, sends, hears, putsNChar, takesNChar, booked, relieved, nearActs, run}
-use Rattle.link_joined.specs.Pair.{ticked, start}
+use Rattle.link_laws.specs.Calls.{replied, repliedToSend, repliedToToken, repliedToTake, endAfter, freshEnd}
+use Rattle.link_joined.specs.Pair.{booked, relieved, nearActs, run, start}
 use Rattle.link_joined.specs.Joined.{Carries}
 
 pub carries : Carries
@@ -25,6 +25,6 @@ unfolding standing freshStore putStore putPlaces dropped freshTime settledAt noC
     effect gotNull fctEffect storedLink nCharEffect tokenEffect tokenPlaces counted nullSent nCharSent sending movesTo
     settles putStored puts putsPlaces takes refusedWith answered accepted refused tickOutcome controlOutcome
     dispatchOf dispatched sendRefused sendOutcome receiptOf received receiveRefused tokenAccepted receiveOutcome
-    putAnswer putPlacesAfter takeAccepted takeRefused takeAnswer quietly sends hears putsNChar takesNChar booked
-    relieved nearActs run ticked start
+    putAnswer putPlacesAfter takeAccepted takeRefused takeAnswer replied repliedToSend repliedToToken repliedToTake
+    endAfter freshEnd booked relieved nearActs run start
 carries = record { nearRuns = refl; farRuns = refl; nearTook = refl; farTook = refl }

@@ -4,27 +4,28 @@ use mathlib.Core.Path.{_≡_, refl}
 use mathlib.Core.Bool.{Bool, true, false}
 use mathlib.Core.List.{List, [], _∷_}
 use Rattle.vocabulary.specs.Choice.{pick}
-use Rattle.link_joined.specs.Pair.{Pair, swap, Act, tick, fault, control, reset, receive, send, put, take, offer}
-use Rattle.link_joined.specs.Pair.{Event, atNear, atFar, nearActs, after, isOver, run}
+use Rattle.vocabulary.specs.declared.Token.{Token}
+use Rattle.link_laws.specs.Calls.{receive, tokenIn}
+use Rattle.link_joined.specs.Pair.{Pair, swap, Act, receives, calls, Event, atNear, atFar, ofFirst, ownCall, allCalled}
+use Rattle.link_joined.specs.Pair.{nearActs, after, isOver, run}
 use Rattle.link_joined.specs.Joined.{Promise, AfterAnyRun, NoneRefused, TwoEndsJoined}
 use Rattle.link_joined.proofs.PairLaws.{Live, live-swapped, Kept, kept-swapped, kept-live, kept-promise}
-use Rattle.link_joined.proofs.QuietLaws.{tick-kept, fault-kept, control-kept, reset-kept}
-use Rattle.link_joined.proofs.ReceiveLaws.{near-accepting, receive-kept}
-use Rattle.link_joined.proofs.SendLaws.{send-kept}
-use Rattle.link_joined.proofs.HostLaws.{put-kept, take-kept, offer-kept}
+use Rattle.link_joined.proofs.PairLaws.{near-accepting, call-kept}
 use Rattle.link_joined.proofs.StartLaws.{start-kept}
 use Rattle.link_joined.proofs.ExampleProof.{carries}
 
 act-kept : (a : Act) (p : Pair) → Kept p → Live p → Kept (nearActs a p)
-act-kept tick p kept live = tick-kept p kept live
-act-kept (fault f) p kept live = fault-kept p kept live f
-act-kept (control c) p kept live = control-kept p kept live c
-act-kept reset p kept live = reset-kept p kept live
-act-kept receive p kept live = receive-kept p kept live
-act-kept send p kept live = send-kept p kept live
-act-kept (put x) p kept live = put-kept p kept live x
-act-kept take p kept live = take-kept p kept live
-act-kept (offer v) p kept live = offer-kept p kept live v
+unfolding nearActs
+act-kept receives p kept live = go (p .far .wire) refl
+  where
+    go : (ts : List Token) → p .far .wire ≡ ts → Kept (allCalled p (ofFirst ts))
+    go [] h = kept
+    go (t ∷ left) h = call-kept p kept live (receive t) left h
+act-kept (calls c) p kept live = go (tokenIn c) refl
+  where
+    go : (ts : List Token) → tokenIn c ≡ ts → Kept (allCalled p (ownCall c ts))
+    go [] h = call-kept p kept live c (p .far .wire) (rw h)
+    go (t ∷ ts) h = kept
 
 event-kept : (e : Event) (p : Pair) → Kept p → Live p → Kept (after e p)
 event-kept (atNear a) p kept live = act-kept a p kept live
@@ -42,8 +43,8 @@ run-kept p (e ∷ es) kept = go (isOver p) refl (run-kept (after e p) es)
 kept-accepts : {p : Pair} → Kept p → NoneRefused p
 kept-accepts {p} kept =
     record {
-      nearAccepts = λ on. near-accepting p kept (kept-live kept on);
-      farAccepts = λ on. near-accepting (swap p) (kept-swapped kept) (live-swapped (kept-live kept on));
+      nearAccepts = λ on. near-accepting p (kept-live kept on);
+      farAccepts = λ on. near-accepting (swap p) (live-swapped (kept-live kept on));
     }
 
 -- what is kept holds after any run

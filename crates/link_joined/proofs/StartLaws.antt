@@ -1,14 +1,13 @@
 -- 64 ticks bring a fresh end to ErrorWait, and two such ends with empty wires keep all that is promised.
 -- Assumes nothing.
-use mathlib.Core.Path.{_≡_, refl, ap, _∙_}
-use mathlib.Core.Bool.{false, true≢false, false≢true}
+use mathlib.Core.Path.{_≡_, refl, sym, ap, subst, _∙_}
+use mathlib.Core.Bool.{false, true≢false}
 use mathlib.Core.List.{List, []}
 use Prim.Native.Nat.{ℕ, zero, suc, _+_, _<_}
 use native.Mathlib.Omega.{arith}
-use lib.ListN.{length}
 use borrow.Author.Tests.{lt-leb}
 use Rattle.store.specs.Changes.{freshStore}
-use Rattle.store.proofs.RingLaws.{fresh-waits, fresh-good}
+use Rattle.store.proofs.RingLaws.{fresh-waits}
 use Rattle.time.specs.Time.{freshTime}
 use Rattle.link.specs.Ends.{End, settledAt, noCredit, freshLink, withStage}
 use Rattle.link.specs.Moves.{conditions, entered}
@@ -17,9 +16,13 @@ use Rattle.link.specs.Recovery.{movesTo, settles}
 use Rattle.link.specs.Calls.{answered, accepted, tickOutcome}
 use Rattle.link.specs.declared.LinkState.{LinkState}
 use Rattle.link.specs.declared.LinkState.the-variants.{ErrorReset, ErrorWait}
-use Rattle.link_joined.specs.Pair.{Node, leaving, ticked, freshEnd, start}
+use Rattle.link_laws.specs.Calls.{tick, replied, turned, endAfter, freshEnd}
+use Rattle.link_laws.specs.Cases.{turn, ticks}
+use Rattle.link_laws.proofs.EndLaws.{Good, passes-good, good-passes}
+use Rattle.link_laws.proofs.GoodEndProofs.{fresh-passes, all-good}
+use Rattle.link_joined.specs.Pair.{Node, start}
 use Rattle.link_joined.specs.Joined.{Allowed}
-use Rattle.link_joined.proofs.EndLaws.{isLate, receive-least, transmit-least, Lawful, Good, passes-both}
+use Rattle.link_joined.proofs.UpLaws.{Up}
 use Rattle.link_joined.proofs.FlowLaws.{unsent, Flow, flow-delivers}
 use Rattle.link_joined.proofs.PairLaws.{Kept}
 
@@ -42,48 +45,51 @@ freshIn rx tx s timer =
     }
 
 abbrev tickedOnce : End → End
-tickedOnce e = leaving e (tickOutcome e .answer .link) (tickOutcome e .rx)
+tickedOnce e = (turned e (turn tick)) .end
 
 module _ (rx tx : List ℕ) (allowed : Allowed rx tx) where
-  fresh-lawful : (s : LinkState) (timer : ℕ) → isLate s ≡ false → Lawful s (freshIn rx tx s timer)
-  unfolding freshLink noCredit
-  fresh-lawful s timer early =
-      record {
-        credits = record { heldSmall = omega arith; heldInRun = λ h. refl; givenSmall = omega arith; givenLate = λ h. refl };
-        room = record { forGiven = λ h. absurd (omega (arith, h)); forEep = λ h. absurd (false≢true h) };
-        rxGood = fresh-good (length rx) (omega (arith, receive-least rx tx allowed));
-        txGood = fresh-good (length tx) (transmit-least rx tx allowed);
-        sizes = allowed;
-        nullSentLate = λ h. absurd (true≢false (rw h at early));
-        keepsPuts = refl;
-      }
+  fresh-good : Good (freshEnd rx tx)
+  fresh-good = passes-good (freshEnd rx tx) (fresh-passes rx tx (allowed .receive) (allowed .transmit))
+
+  reset-good : (timer : ℕ) → timer < 64 → Good (freshIn rx tx ErrorReset timer)
+  unfolding freshEnd freshLink
+  reset-good timer h =
+      record { sound = fresh-good .sound; held-where = fresh-good .held-where; timer-below = h }
 
   tick-counts : (timer : ℕ) → timer < 63 → tickedOnce (freshIn rx tx ErrorReset timer) ≡ freshIn rx tx ErrorReset (timer + 1)
-  unfolding tickOutcome accepted answered settles movesTo settledAt conditions counted withStage
+  unfolding replied tickOutcome accepted answered settles movesTo settledAt conditions counted withStage
   tick-counts timer h =
       rw (
-        passes-both (freshIn rx tx ErrorReset timer) (fresh-lawful ErrorReset timer refl) (omega (arith, h)),
+        good-passes (freshIn rx tx ErrorReset timer) (reset-good timer (omega (arith, h))),
         lt-leb 64 (timer + 1) (omega (arith, h)),
       )
 
   last-tick : tickedOnce (freshIn rx tx ErrorReset 63) ≡ freshIn rx tx ErrorWait 0
-  unfolding tickOutcome accepted answered settles movesTo settledAt conditions counted withStage entered
-  last-tick = rw (passes-both (freshIn rx tx ErrorReset 63) (fresh-lawful ErrorReset 63 refl) (omega arith))
+  unfolding replied tickOutcome accepted answered settles movesTo settledAt conditions counted withStage entered
+  last-tick = rw (good-passes (freshIn rx tx ErrorReset 63) (reset-good 63 (omega arith)))
 
   all-ticks : (count timer : ℕ) → count + timer ≡ 63 →
-      ticked (suc count) (freshIn rx tx ErrorReset timer) ≡ freshIn rx tx ErrorWait 0
-  unfolding ticked
+      endAfter (freshIn rx tx ErrorReset timer) (ticks (suc count)) ≡ freshIn rx tx ErrorWait 0
+  unfolding endAfter
   all-ticks zero timer h =
       let last : timer ≡ 63 = omega (arith, h) in ap (λ (k : ℕ). tickedOnce (freshIn rx tx ErrorReset k)) last ∙ last-tick
   all-ticks (suc count) timer h =
-      ap (ticked (suc count)) (tick-counts timer (omega (arith, h))) ∙ all-ticks count (timer + 1) (omega (arith, h))
+      ap (λ (e : End). endAfter e (ticks (suc count))) (tick-counts timer (omega (arith, h)))
+      ∙ all-ticks count (timer + 1) (omega (arith, h))
 
-  pub brought-to-wait : ticked 64 (freshEnd rx tx) ≡ freshIn rx tx ErrorWait 0
-  unfolding freshLink
+  pub brought-to-wait : endAfter (freshEnd rx tx) (ticks 64) ≡ freshIn rx tx ErrorWait 0
+  unfolding freshEnd freshLink
   brought-to-wait = all-ticks 63 0 refl
 
-  pub wait-good : Good (freshIn rx tx ErrorWait 0)
-  wait-good = record { lawful = fresh-lawful ErrorWait 0 refl; inTime = omega arith; isUp = refl }
+  pub wait-up : Up (freshIn rx tx ErrorWait 0)
+  unfolding freshLink
+  wait-up =
+      record {
+        good = subst Good brought-to-wait (all-good (freshEnd rx tx) (ticks 64) fresh-good);
+        isUp = refl;
+        null-sent = λ late. absurd (true≢false (sym late));
+        keeps-puts = refl;
+      }
 
 abbrev fromEnd : End → Node
 fromEnd e =
@@ -114,8 +120,8 @@ module _ (rx tx rx′ tx′ : List ℕ) (allowed : Allowed rx tx) (allowed′ : 
       record {
         live = λ h k.
             record {
-              near = wait-good rx tx allowed;
-              far = wait-good rx′ tx′ allowed′;
+              near = wait-up rx tx allowed;
+              far = wait-up rx′ tx′ allowed′;
               nearClock = refl;
               farClock = refl;
               there = start-flow rx tx rx′ tx′;

@@ -1,15 +1,14 @@
 -- What is counted on a wire adds up when tokens follow others; and tokens that are never refused as CHAR.
 -- Assumes nothing.
 use mathlib.Core.Path.{_≡_, refl, ap}
-use mathlib.Core.Bool.{false}
 use mathlib.Core.List.{List, [], _∷_, _++_}
 use Prim.Native.Nat.{ℕ, _+_}
 use native.Mathlib.Omega.{arith}
 use lib.ListN.{length, length-append}
-use Rattle.vocabulary.specs.Tokens.{badChar}
 use Rattle.vocabulary.specs.declared.Token.{Token}
 use Rattle.vocabulary.specs.declared.Token.the-variants.{Null, Fct, NChar, TimeCode}
-use Rattle.link_joined.specs.Pair.{fctsOn, nCharsOn}
+use Rattle.link_laws.specs.Tokens.{fctsOn, nCharsOn}
+use Rattle.link_laws.proofs.PassLaws.{Whole}
 
 pub fcts-append : (ts us : List Token) → fctsOn (ts ++ us) ≡ fctsOn ts + fctsOn us
 fcts-append [] us = omega arith
@@ -28,11 +27,6 @@ nchars-append (TimeCode v ∷ ts) us = nchars-append ts us
 pub nchars-add : (ts us : List Token) →
     length (nCharsOn (ts ++ us)) ≡ length (nCharsOn ts) + length (nCharsOn us)
 nchars-add ts us = rw (nchars-append ts us) (length-append (nCharsOn ts) (nCharsOn us))
-
--- every token is one that a received token may be
-abbrev pub Whole : List Token → Type 0
-Whole [] = Unit {0}
-Whole (t ∷ ts) = (badChar t ≡ false) × Whole ts
 
 pub whole-append : (ts us : List Token) → Whole ts → Whole us → Whole (ts ++ us)
 whole-append [] us w v = v

@@ -3,7 +3,7 @@
 -- calls or by never leaving ErrorReset.
 -- Assumes nothing.
 use mathlib.Core.Path.{_≡_}
-use mathlib.Core.Bool.{true, false}
+use mathlib.Core.Bool.{false}
 use mathlib.Core.List.{List, [], _∷_, _++_}
 use Prim.Native.Nat.{ℕ, zero, suc, _+_, _*_, _≤_, _<_}
 use lib.ListN.{length, replicate}
@@ -13,9 +13,10 @@ use Rattle.store.specs.Ring.{free}
 use Rattle.link.specs.Refusals.{badRxSize, badTxSize}
 use Rattle.link.specs.Calls.{both, receiving}
 use Rattle.link.specs.declared.LinkState.the-variants.{Run}
-use Rattle.link.specs.declared.Controls.{Controls}
-use Rattle.link_joined.specs.Pair.{fctsOn, nCharsOn, put, receive, Node, Pair, Act, tick, control}
-use Rattle.link_joined.specs.Pair.{send, take, Event, atNear, atFar, isOver, run, start}
+use Rattle.link_laws.specs.Tokens.{fctsOn, nCharsOn}
+use Rattle.link_laws.specs.Calls.{tick, send, take, put}
+use Rattle.link_laws.specs.Cases.{linkStart}
+use Rattle.link_joined.specs.Pair.{Node, Pair, Act, receives, calls, Event, atNear, atFar, isOver, run, start}
 
 -- "the sender's credit, plus eight for each FCT on its way to it, plus the N-Chars on their way from it"
 abbrev pub underWay : Node → Node → ℕ
@@ -79,17 +80,15 @@ abbrev pub repeated : ℕ → List Event → List Event
 repeated zero es = []
 repeated (suc count) es = es ++ repeated count es
 
-abbrev pub linkStart : Controls
-linkStart = record { disabled = false; start = true; auto = false }
-
 abbrev pub bothRun : List Event
 bothRun =
-    repeated 128 (atBoth tick) ++ atBoth (control linkStart) ++ repeated 2 (atBoth send ++ atBoth receive)
+    repeated 128 (atBoth (calls tick)) ++ atBoth (calls (linkStart .call))
+    ++ repeated 2 (atBoth (calls send) ++ atBoth receives)
 
 abbrev pub packetsPass : List Event
 packetsPass =
-    atNear (put 65) ∷ atNear (put EOP) ∷ atFar (put 66) ∷ atFar (put EOP)
-    ∷ repeated 2 (atBoth send ++ atBoth receive) ++ repeated 2 (atBoth take)
+    atNear (calls (put 65)) ∷ atNear (calls (put EOP)) ∷ atFar (calls (put 66)) ∷ atFar (calls (put EOP))
+    ∷ repeated 2 (atBoth (calls send) ++ atBoth receives) ++ repeated 2 (atBoth (calls take))
 
 abbrev pub ninePlaces : Node
 ninePlaces = start (replicate 9 0) (replicate 9 0)

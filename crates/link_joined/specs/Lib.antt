@@ -1,3 +1,2 @@
-pub mod Grant
 pub mod Pair
 pub mod Joined

@@ -1,16 +1,18 @@
--- A change of an end: the accounts of both its stores, and that nothing waits to be sent while puts are discarded. By
--- the latter what a put discards stands behind all that was accepted before it.
+-- What one call does to the stores of an end; and that nothing waits to be sent while puts are discarded, so that what a
+-- put discards stands behind all that was accepted before it.
 -- Assumes nothing.
-use mathlib.Core.Path.{_≡_, refl, _∙_}
+use mathlib.Core.Path.{_≡_, refl, sym, ap, _∙_}
 use mathlib.Core.Bool.{Bool, true}
-use mathlib.Core.List.{List, [], _++_, append-nil}
-use Prim.Native.Nat.{ℕ, _+_}
+use mathlib.Core.List.{List, [], _++_, append-nil, append-assoc}
+use Prim.Native.Nat.{ℕ, _+_, _≤_}
+use native.Mathlib.Omega.{arith}
 use native.Mathlib.Nat.{zero-add}
 use lib.ListN.{length, length-append}
+use Rattle.store.specs.Ring.{free}
+use Rattle.store.proofs.RingLaws.{waiting-length, len-within}
 use Rattle.link.specs.Ends.{End}
-use Rattle.link_laws.specs.NothingLost.{Accounted, rxWaits, txWaits}
+use Rattle.link_laws.specs.NothingLost.{rxWaits, txWaits}
 use Rattle.link_laws.proofs.EndLaws.{Good}
-use Rattle.link_laws.proofs.AccountLaws.{unchanged, then-account}
 
 -- what entered the transmit store, was sent from it, and how many were discarded from it; what entered the receive
 -- store, was taken from it and emptied from it
@@ -27,27 +29,14 @@ abbrev pub traffic : List ℕ → ℕ → List ℕ → Traffic
 traffic sends discards stores =
     record { puts = []; sends = sends; discards = discards; stores = stores; takes = []; empties = [] }
 
-abbrev pub noTraffic : Traffic
-noTraffic = traffic [] 0 []
-
-abbrev pub bothTraffic : Traffic → Traffic → Traffic
-bothTraffic a b =
-    record {
-      puts = a .puts ++ b .puts;
-      sends = a .sends ++ b .sends;
-      discards = a .discards + b .discards;
-      stores = a .stores ++ b .stores;
-      takes = a .takes ++ b .takes;
-      empties = a .empties ++ b .empties;
-    }
-
--- of what waits in the transmit and in the receive store, before and after
+-- Of what waits in the transmit and in the receive store, before and after: what waited and what entered is what went on,
+-- what was thrown away, and what waits.
 pub record Change (tx rx tx′ rx′ : List ℕ) (discarding : Bool) (m : Traffic) : Type 0 where
   pub none-waits : discarding ≡ true → tx′ ≡ []
   pub away : List ℕ
   pub counted : length away ≡ m .discards
-  pub transmit : Accounted tx (m .puts) tx′ (m .sends) away
-  pub receive : Accounted rx (m .stores) rx′ (m .takes) (m .empties)
+  pub transmit : tx ++ m .puts ≡ m .sends ++ (away ++ tx′)
+  pub receive : rx ++ m .stores ≡ m .takes ++ (m .empties ++ rx′)
 
 -- from one end to another
 abbrev pub ChangeTo : End → End → Traffic → Type 0
@@ -59,27 +48,43 @@ NoneWaits e = e .link .marks .discarding ≡ true → txWaits e ≡ []
 -- It leaves a good end; the accounts need that none waited while puts were discarded.
 pub record Changes (e e′ : End) (m : Traffic) : Type 0 where
   pub good : Good e′
+  pub same-size : length (e′ .rx) ≡ length (e .rx)
   pub change : NoneWaits e → ChangeTo e e′ m
 
--- nothing changes
-pub still : {tx rx : List ℕ} {discarding : Bool} → (discarding ≡ true → tx ≡ []) → Change tx rx tx rx discarding noTraffic
-still {tx} {rx} none =
-    record { none-waits = none; away = []; counted = refl; transmit = unchanged tx; receive = unchanged rx }
+-- what is stored then waits or has left, and what waits has its place
+pub stores-fit : {e e′ : End} {m : Traffic} → Changes e e′ m → NoneWaits e →
+    length (m .stores) ≤ free (length (e .rx)) (e .link .rx) + length (m .takes) + length (m .empties)
+stores-fit {e} {e′} {m} all w =
+    omega (
+      arith,
+      ap length (all .change w .receive),
+      length-append (rxWaits e) (m .stores),
+      length-append (m .takes) (m .empties ++ rxWaits e′),
+      length-append (m .empties) (rxWaits e′),
+      waiting-length (e .rx) (e .link .rx),
+      waiting-length (e′ .rx) (e′ .link .rx),
+      len-within (length (e′ .rx)) (e′ .link .rx) (all .good .sound .rx-good),
+      all .same-size,
+    )
 
--- one change after the other
-pub then-change : {tx rx tx₁ rx₁ tx₂ rx₂ : List ℕ} {d₁ d₂ : Bool} {a b : Traffic} →
-    Change tx rx tx₁ rx₁ d₁ a → Change tx₁ rx₁ tx₂ rx₂ d₂ b → Change tx rx tx₂ rx₂ d₂ (bothTraffic a b)
-then-change c d =
-    record {
-      none-waits = d .none-waits;
-      away = c .away ++ d .away;
-      counted = length-append (c .away) (d .away) ∙ rw (c .counted, d .counted);
-      transmit = then-account (c .transmit) (d .transmit);
-      receive = then-account (c .receive) (d .receive);
-    }
+-- nothing changes
+pub still : {tx rx : List ℕ} {discarding : Bool} → (discarding ≡ true → tx ≡ []) →
+    Change tx rx tx rx discarding (traffic [] 0 [])
+still {tx} {rx} none =
+    record { none-waits = none; away = []; counted = refl; transmit = append-nil tx; receive = append-nil rx }
 
 -- an effect, which discards nothing, and then a move, which sends nothing
 pub effect-then-move : {tx rx tx₁ rx₁ tx₂ rx₂ : List ℕ} {d₁ d₂ : Bool} {sends heard : List ℕ} {n : ℕ} {eep : List ℕ} →
     Change tx rx tx₁ rx₁ d₁ (traffic sends 0 heard) → Change tx₁ rx₁ tx₂ rx₂ d₂ (traffic [] n eep) →
     Change tx rx tx₂ rx₂ d₂ (traffic sends n (heard ++ eep))
-effect-then-move {sends = sends} {n = n} c d = rw (append-nil sends, zero-add n) at (then-change c d)
+effect-then-move {rx = rx} {tx₁ = tx₁} {tx₂ = tx₂} {sends = sends} {heard = heard} {n = n} {eep = eep} c d =
+    record {
+      none-waits = d .none-waits;
+      away = c .away ++ d .away;
+      counted = length-append (c .away) (d .away) ∙ rw (c .counted, d .counted) (zero-add n);
+      transmit =
+          c .transmit
+          ∙ ap (λ (ns : List ℕ). sends ++ (c .away ++ ns)) (sym (append-nil tx₁) ∙ d .transmit)
+          ∙ ap (λ (ns : List ℕ). sends ++ ns) (sym (append-assoc (c .away) (d .away) tx₂));
+      receive = sym (append-assoc rx heard eep) ∙ ap (λ (ns : List ℕ). ns ++ eep) (c .receive) ∙ d .receive;
+    }

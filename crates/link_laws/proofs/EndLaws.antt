@@ -23,6 +23,10 @@ use Rattle.link.specs.declared.Event.{Event}
 use Rattle.link.specs.declared.Event.the-variants.{GotFct}
 use Rattle.link_laws.proofs.TestLaws.{passed-test}
 
+-- where credit may be given out
+abbrev pub isLate : LinkState → Bool
+isLate s = isState s Connecting || isState s Run
+
 -- At every moment: the sizes, the stores, the bounds of credit, and room for what is given out and for an EEP.
 pub record Sound (rx tx : ℕ) (state : LinkState) (held given : ℕ) (stored : Bool) (r t : Store) : Type 0 where
   pub rx-size : badRxSize rx ≡ false
@@ -31,7 +35,7 @@ pub record Sound (rx tx : ℕ) (state : LinkState) (held given : ℕ) (stored : 
   pub tx-good : badStore tx t ≡ false
   pub held-most : held ≤ 56
   pub given-most : given ≤ 56
-  pub given-where : isState state Connecting || isState state Run ≡ false → given ≡ 0
+  pub given-where : isLate state ≡ false → given ≡ 0
   pub given-room : (given ≡ 0 → ⊥) → given + 1 ≤ free rx r
   pub stored-room : stored ≡ true → given + 1 ≤ free rx r
 
@@ -78,7 +82,7 @@ still-between {state = state} event g =
 pub receive-changed : {rx rx′ tx : ℕ} {state state′ : LinkState} {held given given′ : ℕ} {stored stored′ : Bool}
     {r r′ t : Store} →
     Sound rx tx state held given stored r t → rx′ ≡ rx → badStore rx r′ ≡ false → given′ ≤ 56 →
-    (isState state′ Connecting || isState state′ Run ≡ false → given′ ≡ 0) →
+    (isLate state′ ≡ false → given′ ≡ 0) →
     ((given′ ≡ 0 → ⊥) → given′ + 1 ≤ free rx r′) → (stored′ ≡ true → given′ + 1 ≤ free rx r′) →
     Sound rx′ tx state′ held given′ stored′ r′ t
 receive-changed g same good most only some last =
@@ -199,7 +203,7 @@ module _ (e : End) (passes : both e ≡ 0) where
               held-most = held-small (e .link) record-passes;
               given-most = given-small (e .link) record-passes;
               given-where =
-                  only-where (isState s Connecting || isState s Run) given
+                  only-where (isLate s) given
                   (or-right (ltb 56 given) _ (given-good (e .link) record-passes));
               given-room = room-given given (free (length (e .rx)) (e .link .rx)) (e .link .marks .stored) room-passes;
               stored-room = room-stored given (free (length (e .rx)) (e .link .rx)) (e .link .marks .stored) room-passes;
@@ -218,7 +222,7 @@ good-passes e g =
       le-ltb 56 held (g .sound .held-most),
       where-only (isState s Run) held (g .held-where),
       le-ltb 56 given (g .sound .given-most),
-      where-only (isState s Connecting || isState s Run) given (g .sound .given-where),
+      where-only (isLate s) given (g .sound .given-where),
       lt-leb (limitOf s) (e .link .stage .timer) (g .timer-below),
     ) in
     let room : lacksRoom (length (e .rx)) (e .link) ≡ false =

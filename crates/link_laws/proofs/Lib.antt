@@ -1,9 +1,12 @@
 pub mod CaseProofs
 pub mod TestLaws
+pub mod GrantProof
 pub mod AccountLaws
 pub mod EndLaws
+pub mod RefusalLaws
 pub mod TableFacts
 pub mod ChangeLaws
+pub mod PassLaws
 pub mod RecoveryLaws
 pub mod MoveLaws
 pub mod EffectLaws

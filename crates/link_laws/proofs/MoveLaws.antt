@@ -20,18 +20,34 @@ use Rattle.link_laws.proofs.EndLaws.{Good, Between, receive-changed}
 use Rattle.link_laws.proofs.ChangeLaws.{traffic, Changes, still}
 use Rattle.link_laws.proofs.RecoveryLaws.{moved, down-change, down-state}
 
--- it changes the stores only as recovery says
-abbrev pub Moves : End → Settled → Type 0
-Moves e s =
-    Changes e (moved e s) (traffic [] (s .moved .discarded) (eepIf (fell e (moved e s) && e .link .marks .stored)))
+-- from another state
+other-state : (s s′ : LinkState) → isState s′ s ≡ false → isState s′ ErrorReset ≡ true → isState s ErrorReset ≡ false
+other-state s s′ h k =
+    ne-eqb (stateNumber s) 0 λ z. eqb-false (stateNumber s′) (stateNumber s) h (eqb-true (stateNumber s′) 0 k ∙ sym z)
+
+-- what the one move that fits does: none is made, or one to ErrorReset, or one to another state
+pub data Settles (event : Event) (e : End) : Settled → Type 0 where
+  stays : isState (nextState event (e .link)) (e .link .stage .state) ≡ true →
+      Settles event e (settledAt (e .link) 0 (e .rx))
+  falls : isState (e .link .stage .state) ErrorReset ≡ false → Settles event e (goesDown e)
+  enters : isState (nextState event (e .link)) (e .link .stage .state) ≡ false →
+      isState (nextState event (e .link)) ErrorReset ≡ false →
+      Settles event e (settledAt (entered (e .link) (nextState event (e .link))) 0 (e .rx))
+
+pub settled : (event : Event) (e : End) → Settles event e (settles event e)
+unfolding settles movesTo
+settled event e =
+    either-way (Settles event e) (isState (nextState event (e .link)) (e .link .stage .state)) _ _ stays λ other.
+    either-way (Settles event e) (isState (nextState event (e .link)) ErrorReset) _ _
+    (λ down. falls (other-state (e .link .stage .state) (nextState event (e .link)) other down)) (enters other)
 
 stay-good : (event : Event) (e : End) → Between event e →
     isState (nextState event (e .link)) (e .link .stage .state) ≡ true → Good e
 unfolding conditions
-stay-good event e b stays =
+stay-good event e b stay =
     record {
       sound = b .sound;
-      held-where = λ h. b .held-where (stays-held (e .link .stage .state) event (conditions (e .link)) stays h);
+      held-where = λ h. b .held-where (stays-held (e .link .stage .state) event (conditions (e .link)) stay h);
       timer-below = go (countsTicks (e .link .stage .state)) refl;
     }
   where
@@ -39,7 +55,7 @@ stay-good event e b stays =
         e .link .stage .timer < limitOf (e .link .stage .state)
     go true h =
         leb-false (limitOf (e .link .stage .state)) (e .link .stage .timer)
-        (stays-below (e .link .stage .state) event (conditions (e .link)) stays h)
+        (stays-below (e .link .stage .state) event (conditions (e .link)) stay h)
     go false h = b .timer-below h
 
 limit-positive : (s : LinkState) → 0 < limitOf s
@@ -64,36 +80,25 @@ enter-good event e b onward =
       timer-below = limit-positive (nextState event (e .link));
     }
 
--- from another state
-pub other-state : (s s′ : LinkState) → isState s′ s ≡ false → isState s′ ErrorReset ≡ true → isState s ErrorReset ≡ false
-other-state s s′ h k =
-    ne-eqb (stateNumber s) 0 λ z. eqb-false (stateNumber s′) (stateNumber s) h (eqb-true (stateNumber s′) 0 k ∙ sym z)
+-- it changes the stores only as recovery says
+abbrev pub Moves : End → Settled → Type 0
+Moves e s =
+    Changes e (moved e s) (traffic [] (s .moved .discarded) (eepIf (fell e (moved e s) && e .link .marks .stored)))
 
-module _ (event : Event) (e : End) (b : Between event e) where
-  no-move : isState (nextState event (e .link)) (e .link .stage .state) ≡ true → Moves e (settledAt (e .link) 0 (e .rx))
-  unfolding settledAt
-  no-move h =
-      record { good = stay-good event e b h; change = rw (not-and-self (isState (e .link .stage .state) ErrorReset)) still }
+moves : {event : Event} {e : End} {s : Settled} → Between event e → Settles event e s → Moves e s
+unfolding settledAt entered withStage
+moves {event} {e} b (stays h) =
+    record { good = stay-good event e b h; same-size = refl; change = rw (not-and-self (isState (e .link .stage .state) ErrorReset)) still }
+moves {event} {e} b (falls up) =
+    let eep : eepIf (fell e (moved e (goesDown e)) && e .link .marks .stored) ≡ eepIf (e .link .marks .stored) =
+    rw (up, down-state e) in
+    rw eep (down-change event e b)
+moves {event} {e} b (enters h k) =
+    record {
+      good = enter-good event e b (rw (h, k));
+      same-size = refl;
+      change = rw (k, and-false (not (isState (e .link .stage .state) ErrorReset))) still;
+    }
 
-  move-on : isState (nextState event (e .link)) (e .link .stage .state) ≡ false →
-      isState (nextState event (e .link)) ErrorReset ≡ false →
-      Moves e (settledAt (entered (e .link) (nextState event (e .link))) 0 (e .rx))
-  unfolding settledAt entered withStage
-  move-on h k =
-      record {
-        good = enter-good event e b (rw (h, k));
-        change = rw (k, and-false (not (isState (e .link .stage .state) ErrorReset))) still;
-      }
-
-  move-down : isState (nextState event (e .link)) (e .link .stage .state) ≡ false →
-      isState (nextState event (e .link)) ErrorReset ≡ true → Moves e (goesDown e)
-  move-down h k =
-      let eep : eepIf (fell e (moved e (goesDown e)) && e .link .marks .stored) ≡ eepIf (e .link .marks .stored) =
-      rw (other-state (e .link .stage .state) (nextState event (e .link)) h k, down-state e) in
-      rw eep (down-change event e b)
-
-  pub settle : Moves e (settles event e)
-  unfolding settles movesTo
-  settle =
-      either-way (Moves e) (isState (nextState event (e .link)) (e .link .stage .state)) _ _ no-move λ other.
-      either-way (Moves e) (isState (nextState event (e .link)) ErrorReset) _ _ (move-down other) (move-on other)
+pub settle : (event : Event) (e : End) → Between event e → Moves e (settles event e)
+settle event e b = moves b (settled event e)

@@ -3,7 +3,7 @@
 -- Assumes nothing.
 use mathlib.Core.Path.{_≡_, refl, sym, ap, _∙_}
 use mathlib.Core.Bool.{Bool, true, false, not, _||_, or-false, false≢true}
-use mathlib.Core.List.{List, [], _∷_, _++_, append-nil}
+use mathlib.Core.List.{List, [], _++_, append-nil}
 use Prim.Native.Nat.{ℕ, _≤_}
 use native.Mathlib.Omega.{arith}
 use borrow.Author.Tests.{lt-leb}
@@ -21,10 +21,8 @@ use Rattle.store.proofs.RingLaws.{found-count, found-ended}
 use Rattle.store.proofs.PacketLaws.{through-within, no-end-all}
 use Rattle.link.specs.declared.LinkState.the-variants.{ErrorReset}
 use Rattle.link.specs.declared.Event.{Event}
-use Rattle.link.specs.declared.Link.{Link}
-use Rattle.link.specs.declared.Moved.{Moved}
+use Rattle.link.specs.Records.{Link, Moved}
 use Rattle.link_laws.specs.NothingLost.{eepIf, rxWaits, txWaits}
-use Rattle.link_laws.proofs.AccountLaws.{unchanged, enter, throw}
 use Rattle.link_laws.proofs.TestLaws.{either-way}
 use Rattle.link_laws.proofs.EndLaws.{Good, Between, receive-changed, transmit-changed, all-cleared}
 use Rattle.link_laws.proofs.ChangeLaws.{traffic, NoneWaits, Changes, still, effect-then-move}
@@ -63,21 +61,22 @@ close-change e g none = go (e .link .marks .stored) refl
               record {
                 sound =
                     receive-changed (g .sound) (put-keeps-length (e .rx) (e .link .rx) EEP)
-                    (put-good (length (e .rx)) (e .link .rx) good) (g .sound .given-most) (g .sound .given-where)
+                    (put-good (length (e .rx)) (e .link .rx) EEP good) (g .sound .given-most) (g .sound .given-where)
                     (λ some. absurd (some none)) (λ s. absurd (false≢true s));
                 held-where = g .held-where;
                 timer-below = g .timer-below;
               };
+          same-size = put-keeps-length (e .rx) (e .link .rx) EEP;
           change = λ w.
               record {
                 none-waits = w;
                 away = [];
                 counted = refl;
-                transmit = unchanged (txWaits e);
-                receive = rw (put-appends (e .rx) (e .link .rx) EEP good room) (enter (rxWaits e) (EEP ∷ []));
+                transmit = append-nil (txWaits e);
+                receive = sym (put-appends (e .rx) (e .link .rx) EEP good room);
               };
         })
-    go false h = rw h (record { good = rw h at g; change = still })
+    go false h = rw h (record { good = rw h at g; same-size = refl; change = still })
 
 -- the list that recovery discards: what waits through its first end
 module _ (places : List ℕ) (s : Store) (good : badStore (length places) s ≡ false) where
@@ -124,17 +123,17 @@ discard-change e g =
             held-where = g .held-where;
             timer-below = g .timer-below;
           };
+      same-size = refl;
       change = λ w.
           record {
             none-waits = none w ((found (e .tx) (e .link .tx)) .ended) refl;
             away = take count (txWaits e);
             counted = discarded-length (e .tx) (e .link .tx) good;
-            transmit =
-                throw (take count (txWaits e)) (append-nil (txWaits e) ∙ discarded-split (e .tx) (e .link .tx) good);
-            receive = unchanged (rxWaits e);
+            transmit = append-nil (txWaits e) ∙ discarded-split (e .tx) (e .link .tx) good;
+            receive = append-nil (rxWaits e);
           };
     })
-    (λ h. record { good = g; change = still })
+    (λ h. record { good = g; same-size = refl; change = still })
   where
     good : badStore (length (e .tx)) (e .link .tx) ≡ false
     good = g .sound .tx-good
@@ -161,6 +160,7 @@ down-change event e b =
     discard-change (close (clear e)) (closing .good) in
     record {
       good = discarding .good;
+      same-size = discarding .same-size ∙ closing .same-size;
       change = λ w.
           rw (append-nil (eepIf (e .link .marks .stored)))
           at (effect-then-move (closing .change w) (discarding .change (closing .change w .none-waits)));

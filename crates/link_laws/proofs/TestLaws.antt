@@ -26,10 +26,6 @@ pub and-right : (a b : Bool) → a && b ≡ true → b ≡ true
 and-right true b h = h
 and-right false b h = absurd (false≢true h)
 
-pub or-behind : (a b : Bool) → b ≡ true → a || b ≡ true
-or-behind true b h = refl
-or-behind false b h = h
-
 -- where a test holds and neither of its first two parts does
 or-then : (a b : Bool) → T (a || b) → a ≡ false → T b
 or-then true b t h = absurd (true≢false h)

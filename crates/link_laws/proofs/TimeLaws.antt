@@ -17,9 +17,7 @@ use Rattle.link.specs.Credit.{passes56, noneGiven}
 use Rattle.link.specs.Received.{effect, fctEffect, nCharEffect, timeCodeEffect, ignoresToken, heardEffect, tokenEffect}
 use Rattle.link.specs.Calls.{Outcome, receiptOf, received, receiveRefused, receiving, tokenAccepted, receiveOutcome}
 use Rattle.link.specs.declared.LinkState.the-variants.{Connecting, Run}
-use Rattle.link.specs.declared.Link.{Link}
-use Rattle.link.specs.declared.Effect.{Effect}
-use Rattle.link.specs.declared.Receipt.{Receipt}
+use Rattle.link.specs.Records.{Link, Effect, Receipt}
 use Rattle.link_laws.specs.Calls.{Call, tick, send, take, reset, fault, control, receive, put, offer, replied}
 use Rattle.link_laws.specs.Calls.{repliedToSend, repliedToToken, repliedToTake, reply}
 use Rattle.link_laws.proofs.TestLaws.{either-way}

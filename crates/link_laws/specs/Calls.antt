@@ -2,7 +2,7 @@
 -- crate, and whoever joins ends, speaks of calls in this one shape.
 -- Assumes nothing.
 use Prim.Native.Nat.{ℕ}
-use mathlib.Core.Bool.{Bool, false}
+use mathlib.Core.Bool.{Bool, true, false}
 use mathlib.Core.List.{List, [], _∷_}
 use lib.ListN.{length}
 use lib.Dec.{eqb}
@@ -13,13 +13,10 @@ use Rattle.link.specs.Ends.{End, freshLink}
 use Rattle.link.specs.Calls.{Outcome, tickOutcome, faultOutcome, controlOutcome, resetOutcome, sendOutcome}
 use Rattle.link.specs.Calls.{receiveOutcome, putAnswer, putPlacesAfter, takeAnswer, offerAnswer}
 use Rattle.link.specs.declared.FaultKind.{FaultKind}
-use Rattle.link.specs.declared.Controls.{Controls}
+use Rattle.link.specs.Records.{Controls}
 use Rattle.link.specs.declared.Sent.{Sent}
 use Rattle.link.specs.declared.Sent.the-variants.{Silence}
-use Rattle.link.specs.declared.Answer.{Answer}
-use Rattle.link.specs.declared.Receipt.{Receipt}
-use Rattle.link.specs.declared.Dispatch.{Dispatch}
-use Rattle.link.specs.declared.Taken.{Taken}
+use Rattle.link.specs.Records.{Answer, Receipt, Dispatch, Taken}
 
 pub data Call : Type 0 where
   tick send take reset : Call
@@ -27,6 +24,29 @@ pub data Call : Type 0 where
   control : Controls → Call
   receive : Token → Call
   put offer : ℕ → Call
+
+-- the token that a call is made with
+abbrev pub tokenIn : Call → List Token
+tokenIn tick = []
+tokenIn send = []
+tokenIn take = []
+tokenIn reset = []
+tokenIn (fault f) = []
+tokenIn (control c) = []
+tokenIn (receive t) = t ∷ []
+tokenIn (put n) = []
+tokenIn (offer v) = []
+
+abbrev pub isReset : Call → Bool
+isReset tick = false
+isReset send = false
+isReset take = false
+isReset reset = true
+isReset (fault f) = false
+isReset (control c) = false
+isReset (receive t) = false
+isReset (put n) = false
+isReset (offer v) = false
 
 -- What a call answers, and the end and the time record when it returns. `puts` is what a put accepted from the host,
 -- `sent` what a send gave out, `takes` what a take gave the host, `tickOut` a received token's.
@@ -41,8 +61,8 @@ pub record Reply : Type 0 where
   pub tickOut : Bool
 
 -- what a call did, which is nothing where it was refused
-abbrev pub ifAccepted : ℕ → List ℕ → List ℕ
-ifAccepted refusal ns = pick (eqb refusal 0) ns []
+abbrev pub ifAccepted : {A : Type 0} → ℕ → List A → List A
+ifAccepted refusal xs = pick (eqb refusal 0) xs []
 
 -- of a plain answer to a call that would put these, with what the places of both stores then hold
 unfoldable pub replied : List ℕ → Answer → List ℕ → List ℕ → Time → Reply

@@ -16,11 +16,9 @@ use Rattle.link.specs.Moves.{isState}
 use Rattle.link.specs.Received.{ignoresToken, storesNChar}
 use Rattle.link.specs.Refusals.{badRxSize, badTxSize}
 use Rattle.link.specs.declared.LinkState.the-variants.{ErrorReset}
-use Rattle.link.specs.declared.Sent.{Sent}
-use Rattle.link.specs.declared.Sent.the-variants.{Silence, Sends}
-use Rattle.link.specs.declared.Link.{Link}
-use Rattle.link_laws.specs.Calls.{Call, tick, send, take, reset, fault, control, receive, put, offer, ifAccepted}
-use Rattle.link_laws.specs.Calls.{Turn, turned, endAfter, freshEnd}
+use Rattle.link.specs.Records.{Link}
+use Rattle.link_laws.specs.Tokens.{nCharsOn, tokensOf}
+use Rattle.link_laws.specs.Calls.{Call, tokenIn, isReset, ifAccepted, Turn, turned, endAfter, freshEnd}
 
 -- An N-Char that left a store went on, sent or taken by the host, or was thrown away: discarded, or emptied by a reset.
 pub data Fate : Type 0 where
@@ -55,17 +53,6 @@ pub record Accounted (before entered after went away : List ℕ) : Type 0 where
   pub went-on : onward journal ≡ went
   pub thrown-away : thrown journal ≡ away
 
--- the N-Char that a send gave out
-abbrev pub nCharsIn : Token → List ℕ
-nCharsIn Null = []
-nCharsIn Fct = []
-nCharsIn (NChar n) = n ∷ []
-nCharsIn (TimeCode v) = []
-
-abbrev pub sentNChars : Sent → List ℕ
-sentNChars Silence = []
-sentNChars (Sends t) = nCharsIn t
-
 -- "a received N-Char in Run takes 1 and is stored, or at 0 is a credit error and is not stored", where it is not ignored
 abbrev pub heardBy : Link → Token → List ℕ
 heardBy l Null = []
@@ -89,18 +76,18 @@ eepIf b = pick b (EEP ∷ []) []
 abbrev pub withEep : End → End → List ℕ → List ℕ
 withEep e e′ heard = heard ++ eepIf (fell e e′ && endsInData heard (e .link .marks .stored))
 
+-- the N-Chars that a call stores as they came from the wire
+abbrev pub heardFrom : Link → List Token → List ℕ
+heardFrom l [] = []
+heardFrom l (t ∷ ts) = heardBy l t ++ heardFrom l ts
+
+abbrev pub heardIn : End → Call → List ℕ
+heardIn e c = heardFrom (e .link) (tokenIn c)
+
 -- What a call that is not refused stores in the receive store. Of a reset: "If the last taken N-Char was data, the
 -- receive store then holds one EEP, else nothing."
 abbrev pub storing : End → End → Call → List ℕ
-storing e e′ tick = withEep e e′ []
-storing e e′ send = withEep e e′ []
-storing e e′ take = []
-storing e e′ reset = eepIf (e .link .marks .taken)
-storing e e′ (fault f) = withEep e e′ []
-storing e e′ (control c) = withEep e e′ []
-storing e e′ (receive t) = withEep e e′ (heardBy (e .link) t)
-storing e e′ (put n) = []
-storing e e′ (offer v) = []
+storing e e′ c = pick (isReset c) (eepIf (e .link .marks .taken)) (withEep e e′ (heardIn e c))
 
 -- the N-Chars that wait for the host, and those that wait to be sent
 abbrev pub rxWaits : End → List ℕ
@@ -111,22 +98,14 @@ txWaits e = waiting (e .tx) (e .link .tx)
 
 -- "Reset .. empties both stores"; nothing else empties the receive store.
 abbrev pub emptying : End → Call → List ℕ
-emptying e tick = []
-emptying e send = []
-emptying e take = []
-emptying e reset = rxWaits e
-emptying e (fault f) = []
-emptying e (control c) = []
-emptying e (receive t) = []
-emptying e (put n) = []
-emptying e (offer v) = []
+emptying e c = pick (isReset c) (rxWaits e) []
 
 -- what a call put, sent, stored, gave the host and emptied
 abbrev pub putBy : End → Turn → List ℕ
 putBy e t = (turned e t) .puts
 
 abbrev pub sentBy : End → Turn → List ℕ
-sentBy e t = sentNChars ((turned e t) .sent)
+sentBy e t = nCharsOn (tokensOf ((turned e t) .sent))
 
 abbrev pub storedBy : End → Turn → List ℕ
 storedBy e t = ifAccepted ((turned e t) .refusal) (storing e ((turned e t) .end) (t .call))

@@ -8,14 +8,13 @@ use lib.ListN.{length, take}
 use lib.Seq.{take-at}
 use Rattle.vocabulary.specs.Choice.{pick}
 use Rattle.store.specs.Packets.{throughEnd}
-use Rattle.link.specs.declared.Marks.{Marks}
+use Rattle.link.specs.Records.{Marks}
 use Rattle.link_laws.specs.NothingLost.{eepIf}
 use Rattle.link_laws.proofs.EffectLaws.{marksAfter}
 use Rattle.link_packets.specs.Stretches.{Stretches, carrying, ending}
 use Rattle.link_packets.proofs.MoveMarks.{recovered}
 use Rattle.link_packets.proofs.ReceiveLaws.{Receives, received-more, received-end}
-use Rattle.link_packets.proofs.TransmitLaws.{Transmits, transmitted-more}
-use Rattle.link_packets.proofs.TransmitLaws.{transmitted-end}
+use Rattle.link_packets.proofs.TransmitLaws.{Transmits, transmitted-more, transmitted-end}
 
 -- of what was received and sent in each stretch, what was taken and put, what waits in both stores, and the marks
 pub record Holds (reset : Bool) (got out : Stretches) (taken put rx tx : List ℕ) (m : Marks) : Type 0 where

@@ -7,18 +7,18 @@ use mathlib.Core.List.{List}
 use Prim.Native.Nat.{ℕ}
 use Rattle.vocabulary.specs.Choice.{pick}
 use Rattle.store.specs.Packets.{throughEnd, holdsEnd}
+use Rattle.store.specs.Changes.{found}
 use Rattle.store.proofs.RingLaws.{found-count, found-ended}
 use Rattle.link.specs.Ends.{End, Settled, settledAt, withStage, withMarks, withRx, withTx, markStored, markSent, markDiscarding}
-use Rattle.link.specs.Moves.{isState, nextState, entered}
-use Rattle.link.specs.Recovery.{cleared, closedLink, discardedLink, restDiscarded, goesDown, movesTo, settles}
+use Rattle.link.specs.Moves.{isState, entered}
+use Rattle.link.specs.Recovery.{cleared, closedLink, discardedLink, restDiscarded, goesDown, settles}
 use Rattle.link.specs.declared.LinkState.the-variants.{ErrorReset}
 use Rattle.link.specs.declared.Event.{Event}
-use Rattle.link.specs.declared.Marks.{Marks}
+use Rattle.link.specs.Records.{Marks}
 use Rattle.link_laws.specs.NothingLost.{fell, txWaits}
 use Rattle.link_laws.proofs.EndLaws.{Between}
-use Rattle.link_laws.proofs.TestLaws.{either-way}
 use Rattle.link_laws.proofs.RecoveryLaws.{moved, down-state}
-use Rattle.link_laws.proofs.MoveLaws.{other-state}
+use Rattle.link_laws.proofs.MoveLaws.{Settles, stays, falls, enters, settled}
 
 abbrev pub recovered : List ℕ → Marks → Marks
 recovered waits m =
@@ -31,40 +31,37 @@ recovered waits m =
     }
 
 pub data Recovers (e : End) (s : Settled) : Type 0 where
-  stays : fell e (moved e s) ≡ false → s .moved .link .marks ≡ e .link .marks → s .moved .discarded ≡ 0 → Recovers e s
-  falls : fell e (moved e s) ≡ true → s .moved .link .marks ≡ recovered (txWaits e) (e .link .marks) →
+  unmoved : fell e (moved e s) ≡ false → s .moved .link .marks ≡ e .link .marks → s .moved .discarded ≡ 0 → Recovers e s
+  fallen : fell e (moved e s) ≡ true → s .moved .link .marks ≡ recovered (txWaits e) (e .link .marks) →
       s .moved .discarded ≡ pick (e .link .marks .sent) (throughEnd (txWaits e)) 0 → Recovers e s
 
 module _ (event : Event) (e : End) (b : Between event e) where
-  down-marks : (goesDown e) .moved .link .marks ≡ recovered (txWaits e) (e .link .marks)
-  unfolding goesDown restDiscarded discardedLink closedLink cleared withMarks withRx withTx markStored markSent markDiscarding
-  down-marks = go (e .link .marks .stored) (e .link .marks .sent) refl refl
-    where
-      go : (stored sent : Bool) → e .link .marks .stored ≡ stored → e .link .marks .sent ≡ sent →
-          (goesDown e) .moved .link .marks ≡ recovered (txWaits e) (e .link .marks)
-      go true true h k = rw (h, k, found-ended (e .tx) (e .link .tx) (b .sound .tx-good))
-      go true false h k = rw (h, k, or-false (e .link .marks .discarding))
-      go false true h k = rw (h, k, found-ended (e .tx) (e .link .tx) (b .sound .tx-good))
-      go false false h k = rw (h, k, or-false (e .link .marks .discarding))
+  abbrev Recovered : Type 0
+  Recovered =
+      ((goesDown e) .moved .link .marks ≡ recovered (txWaits e) (e .link .marks))
+      × ((goesDown e) .moved .discarded ≡ pick (e .link .marks .sent) (throughEnd (txWaits e)) 0)
 
-  down-discards : (goesDown e) .moved .discarded ≡ pick (e .link .marks .sent) (throughEnd (txWaits e)) 0
+  down : Recovered
   unfolding goesDown restDiscarded discardedLink closedLink cleared withMarks withRx withTx markStored markSent markDiscarding
-  down-discards = go (e .link .marks .stored) (e .link .marks .sent) refl refl
+  down = go (e .link .marks .stored) (e .link .marks .sent) refl refl
     where
-      go : (stored sent : Bool) → e .link .marks .stored ≡ stored → e .link .marks .sent ≡ sent →
-          (goesDown e) .moved .discarded ≡ pick (e .link .marks .sent) (throughEnd (txWaits e)) 0
-      go true true h k = rw (h, k, found-count (e .tx) (e .link .tx) (b .sound .tx-good))
-      go true false h k = rw (h, k)
-      go false true h k = rw (h, k, found-count (e .tx) (e .link .tx) (b .sound .tx-good))
-      go false false h k = rw (h, k)
+      ended : (found (e .tx) (e .link .tx)) .ended ≡ holdsEnd (txWaits e)
+      ended = found-ended (e .tx) (e .link .tx) (b .sound .tx-good)
+
+      count : (found (e .tx) (e .link .tx)) .count ≡ throughEnd (txWaits e)
+      count = found-count (e .tx) (e .link .tx) (b .sound .tx-good)
+
+      go : (stored sent : Bool) → e .link .marks .stored ≡ stored → e .link .marks .sent ≡ sent → Recovered
+      go true true h k = rw (h, k, ended, count) (refl, refl)
+      go true false h k = rw (h, k, or-false (e .link .marks .discarding)) (refl, refl)
+      go false true h k = rw (h, k, ended, count) (refl, refl)
+      go false false h k = rw (h, k, or-false (e .link .marks .discarding)) (refl, refl)
+
+  marks : {s : Settled} → Settles event e s → Recovers e s
+  unfolding settledAt entered withStage
+  marks (stays h) = unmoved (not-and-self (isState (e .link .stage .state) ErrorReset)) refl refl
+  marks (falls up) = fallen (rw (up, down-state e)) (down .0) (down .1)
+  marks (enters h on) = unmoved (rw (on, and-false (not (isState (e .link .stage .state) ErrorReset)))) refl refl
 
   pub settle-marks : Recovers e (settles event e)
-  unfolding settles movesTo settledAt entered withStage
-  settle-marks =
-      either-way (Recovers e) (isState (nextState event (e .link)) (e .link .stage .state)) _ _
-      (λ h. stays (not-and-self (isState (e .link .stage .state) ErrorReset)) refl refl) λ other.
-      either-way (Recovers e) (isState (nextState event (e .link)) ErrorReset) _ _
-      (λ down.
-      falls (rw (other-state (e .link .stage .state) (nextState event (e .link)) other down, down-state e))
-      down-marks down-discards)
-      (λ on. stays (rw (on, and-false (not (isState (e .link .stage .state) ErrorReset)))) refl refl)
+  settle-marks = marks (settled event e)

@@ -1,39 +1,38 @@
 -- What holds of both stores holds after every call, whatever happened at it.
 -- Assumes nothing.
 use Prim.Native.Nat.{ℕ}
-use mathlib.Core.Path.{_≡_, refl, sym, ap, subst, _∙_}
+use mathlib.Core.Path.{_≡_, refl, sym, subst, _∙_}
 use mathlib.Core.Bool.{Bool, true, false, not, _||_, _&&_, or-false, or-true, and-false, not-and-self}
 use mathlib.Core.List.{List, [], _∷_, _++_, append-nil, append-cancel-left}
 use lib.Dec.{eqb}
 use lib.ListN.{length}
-use Rattle.vocabulary.specs.NChars.{readAs, aboveEEP}
-use Rattle.store.specs.Ring.{waiting, empty, full}
-use Rattle.store.specs.Changes.{putStore, putPlaces, dropped}
-use Rattle.store.proofs.RingLaws.{fresh-waits, put-appends, front-is-first}
+use Rattle.vocabulary.specs.NChars.{aboveEEP}
+use Rattle.vocabulary.specs.declared.Token.{Token}
+use Rattle.store.specs.Ring.{empty, full}
+use Rattle.store.proofs.RingLaws.{fresh-waits}
 use Rattle.time.specs.declared.Time.{Time}
 use Rattle.link.specs.Ends.{End, settledAt, withMarks, withOffer, withRx, withTx, markStored, markSent, markTaken}
 use Rattle.link.specs.Ends.{markPut, markDiscarding}
 use Rattle.link.specs.Moves.{isState}
 use Rattle.link.specs.Recovery.{cleared, settles}
 use Rattle.link.specs.Reset.{emptied, resets}
-use Rattle.link.specs.Hosts.{putDiscarded, putStored, puts, putsPlaces, takenNChar, takes, offers}
-use Rattle.link.specs.Calls.{withLink}
+use Rattle.link.specs.Hosts.{putDiscarded, putStored, puts, putsPlaces, takes, offers}
 use Rattle.link.specs.declared.LinkState.the-variants.{ErrorReset}
 use Rattle.link.specs.declared.Event.{Event}
-use Rattle.link.specs.declared.Marks.{Marks}
+use Rattle.link.specs.Records.{Marks}
 use Rattle.link.specs.declared.Sent.{Sent}
 use Rattle.link.specs.declared.Sent.the-variants.{Silence}
-use Rattle.link_laws.specs.Calls.{Call, take, reset, receive, put, offer, Reply, ifAccepted}
-use Rattle.link_laws.specs.NothingLost.{fell, eepIf, sentNChars, rxWaits, txWaits}
+use Rattle.link_laws.specs.Tokens.{nCharsOn, tokensOf}
+use Rattle.link_laws.specs.Calls.{Call, take, reset, put, offer, isReset, Reply, ifAccepted}
+use Rattle.link_laws.specs.NothingLost.{heardIn, fell, eepIf, rxWaits, txWaits}
 use Rattle.link_laws.proofs.EndLaws.{Good}
-use Rattle.link_laws.proofs.AccountLaws.{thrown-first}
 use Rattle.link_laws.proofs.RecoveryLaws.{moved}
 use Rattle.link_laws.proofs.MoveLaws.{settle}
 use Rattle.link_laws.proofs.EffectLaws.{Effected}
-use Rattle.link_laws.proofs.HostLaws.{reset-change}
-use Rattle.link_laws.proofs.WalkLaws.{IsEvent, aTick, aSend, aFault, aControl, aToken, done, notDone, Happened, nothing}
-use Rattle.link_laws.proofs.WalkLaws.{event, aPut, aTake, anOffer, aReset}
-use Rattle.link_packets.specs.Stretches.{heardIn, isReset, Stretches, longer}
+use Rattle.link_laws.proofs.HostLaws.{afterPut, takenOf, afterTake, afterOffer, take-hosted, put-hosted, reset-change}
+use Rattle.link_laws.proofs.WalkLaws.{IsEvent, event-heard, event-no-reset, done, notDone, Happened, nothing, event}
+use Rattle.link_laws.proofs.WalkLaws.{aPut, aTake, anOffer, aReset}
+use Rattle.link_packets.specs.Stretches.{Stretches, longer}
 use Rattle.link_packets.proofs.MoveMarks.{settle-marks}
 use Rattle.link_packets.proofs.ReceiveLaws.{Receives, received-take, received-reset}
 use Rattle.link_packets.proofs.TransmitLaws.{Transmits, put-stored, put-discarded, transmitted-reset}
@@ -43,20 +42,6 @@ use Rattle.link_packets.proofs.EventLaws.{HoldsAt, none-waits, effect-h
 abbrev endsAt : End → Call → Reply → Bool
 endsAt e c r = isReset c && eqb (r .refusal) 0 || fell e (r .end)
 
-event-heard : {e : End} {c : Call} {heard : List ℕ} → IsEvent e c heard → heardIn e c ≡ heard
-event-heard aTick = refl
-event-heard aSend = refl
-event-heard (aFault f) = refl
-event-heard (aControl c) = refl
-event-heard (aToken t) = refl
-
-event-no-reset : {e : End} {c : Call} {heard : List ℕ} → IsEvent e c heard → isReset c ≡ false
-event-no-reset aTick = refl
-event-no-reset aSend = refl
-event-no-reset (aFault f) = refl
-event-no-reset (aControl c) = refl
-event-no-reset (aToken t) = refl
-
 module _ {was : Bool} {got out : Stretches} {taken handedIn : List ℕ} (e : End)
     (h : HoldsAt was got out taken handedIn e) where
   -- what is to hold after a call
@@ -64,7 +49,7 @@ module _ {was : Bool} {got out : Stretches} {taken handedIn : List ℕ} (e : End
   After c r =
       HoldsAt (was || isReset c && eqb (r .refusal) 0)
       (longer got (ifAccepted (r .refusal) (heardIn e c)) (endsAt e c r))
-      (longer out (sentNChars (r .sent)) (endsAt e c r))
+      (longer out (nCharsOn (tokensOf (r .sent))) (endsAt e c r))
       (taken ++ r .takes) (handedIn ++ r .puts) (r .end)
 
   -- it stands in one stretch with the call before it
@@ -79,32 +64,30 @@ module _ {was : Bool} {got out : Stretches} {taken handedIn : List ℕ} (e : End
   nothing-holds c number time refused =
       rw (refused, and-false (isReset c), append-nil taken, append-nil handedIn) (same-stretch h)
 
-  event-holds : {c : Call} {heard : List ℕ} (this : Event) (mid : End) (sent : Sent) (time : Time) (tickOut : Bool) →
-      IsEvent e c heard → Effected this e mid (sentNChars sent) heard →
+  event-holds : {c : Call} {heard : List Token} (this : Event) (mid : End) (sent : Sent) (time : Time) (tickOut : Bool) →
+      IsEvent e c this heard → Effected this e mid heard (tokensOf sent) →
       After c (done (moved mid (settles this mid)) ((settles this mid) .moved .discarded) [] sent [] time tickOut)
   event-holds this mid sent time tickOut is f =
       rw (event-heard is, event-no-reset is, or-false was, append-nil taken, append-nil handedIn, ← f .same-state)
       (move-holds mid (settles this mid) (settle this mid (f .between)) (settle-marks this mid (f .between))
       (effect-holds e mid f h))
 
-  offer-holds : (v : ℕ) (time : Time) → After (offer v) (done (withLink e (offers (e .link) v)) 0 [] Silence [] time false)
+  offer-holds : (v : ℕ) (time : Time) → After (offer v) (done (afterOffer e v) 0 [] Silence [] time false)
   unfolding offers withOffer
   offer-holds v time = rw (append-nil taken, append-nil handedIn) (same-stretch h)
 
   module _ (g : Good e) where
     take-holds : (time : Time) → empty (e .link .rx) ≡ false →
-        After take
-        (done (withLink e (takes (length (e .rx)) (e .link) (takenNChar (e .rx) (e .link)))) 0 [] Silence
-        (takenNChar (e .rx) (e .link) ∷ []) time false)
+        After take (done (afterTake e) 0 [] Silence (takenOf e ∷ []) time false)
     unfolding takes withMarks withRx markTaken
     take-holds time some =
-        let first : rxWaits e ≡ takenNChar (e .rx) (e .link) ∷ waiting (e .rx) (dropped (length (e .rx)) (e .link .rx) 1) =
-        front-is-first (e .rx) (e .link .rx) (g .sound .rx-good) some in
+        let first : rxWaits e ≡ takenOf e ∷ rxWaits (afterTake e) =
+        sym (append-nil (rxWaits e)) ∙ take-hosted e g some .passes .receive in
         rw (append-nil handedIn)
         (same-stretch
         (record {
           receive =
-              received-take (takenNChar (e .rx) (e .link))
+              received-take (takenOf e)
               (subst (λ (rx : List ℕ). Receives was got taken rx (e .link .marks .stored) (e .link .marks .taken)) first
               (h .receive));
           transmit = h .transmit;
@@ -113,8 +96,7 @@ module _ {was : Bool} {got out : Stretches} {taken handedIn : List ℕ} (e : End
     abbrev AfterPut : ℕ → Time → Type 0
     AfterPut n time =
         After (put n)
-        (done (record { link = (puts (length (e .tx)) (e .link) n) .link; rx = e .rx; tx = putsPlaces (e .tx) (e .link) n })
-        ((puts (length (e .tx)) (e .link) n) .discarded) (n ∷ []) Silence [] time false)
+        (done (afterPut e n) ((puts (length (e .tx)) (e .link) n) .discarded) (n ∷ []) Silence [] time false)
 
     put-holds : (n : ℕ) (time : Time) → aboveEEP n ≡ false →
         not (e .link .marks .discarding) && full (length (e .tx)) (e .link .tx) ≡ false → AfterPut n time
@@ -131,12 +113,9 @@ module _ {was : Bool} {got out : Stretches} {taken handedIn : List ℕ} (e : End
             rw (k, append-nil taken)
             (same-stretch (record { receive = h .receive; transmit = put-discarded n (at true k) }))
         go false k =
-            let not-full : full (length (e .tx)) (e .link .tx) ≡ false = rw k at room in
-            let read : readAs n ≡ n = rw small in
-            let after : waiting (putPlaces (e .tx) (e .link .tx) n) (putStore (length (e .tx)) (e .link .tx))
-            ≡ txWaits e ++ n ∷ [] =
-            put-appends (e .tx) (e .link .tx) n (g .sound .tx-good) not-full ∙ ap (λ (m : ℕ). txWaits e ++ m ∷ []) read in
-            rw (k, append-nil taken, after)
+            let after : txWaits (afterPut e n) ≡ txWaits e ++ n ∷ [] =
+            sym (put-hosted e g n small k (rw k at room) .passes .transmit) in
+            rw (after, k, append-nil taken)
             (same-stretch (record { receive = h .receive; transmit = put-stored n (at false k) }))
 
     reset-holds : (time : Time) →
@@ -147,7 +126,7 @@ module _ {was : Bool} {got out : Stretches} {taken handedIn : List ℕ} (e : End
         let eep : rxWaits (moved e (resets (e .rx) (e .link))) ≡ eepIf (e .link .marks .taken) =
         sym
         (append-cancel-left (rxWaits e) (eepIf (e .link .marks .taken)) (rxWaits (moved e (resets (e .rx) (e .link))))
-        (thrown-first ((reset-change e g) .change (none-waits e h) .receive))) in
+        ((reset-change e g) .change (none-waits e h) .receive)) in
         rw (
           or-true was,
           append-nil (got .present),
@@ -160,7 +139,7 @@ module _ {was : Bool} {got out : Stretches} {taken handedIn : List ℕ} (e : End
         (record { receive = received-reset (h .receive); transmit = transmitted-reset (h .transmit) })
 
     pub step-holds : {c : Call} {r : Reply} → Happened e c r → After c r
-    step-holds (nothing c number time refused) = nothing-holds c number time refused
+    step-holds (nothing c number time refused other) = nothing-holds c number time refused
     step-holds (event c this mid sent heard time tickOut is f) = event-holds this mid sent time tickOut is f
     step-holds (aPut n time small room) = put-holds n time small room
     step-holds (aTake time some) = take-holds time some

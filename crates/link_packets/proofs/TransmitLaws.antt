@@ -4,7 +4,7 @@
 use Prim.Native.Nat.{ℕ}
 use mathlib.Core.Path.{_≡_, refl, sym, ap, subst, _∙_}
 use mathlib.Core.Bool.{Bool, true, false, not, _||_, _&&_, or-true, true≢false, false≢true}
-use mathlib.Core.List.{List, [], _∷_, _++_, append-nil, append-assoc, append-cancel-left, cons-ne-nil}
+use mathlib.Core.List.{List, [], _∷_, _++_, append-nil, append-assoc, append-cancel-left, append-eq-nil-iff}
 use borrow.Author.Tests.{not-true}
 use lib.ListN.{take}
 use lib.Seq.{take-length}
@@ -38,12 +38,10 @@ pub record Transmits (reset : Bool) (s : Stretches) (put waits : List ℕ) (sent
   pub only-rest : reset ≡ false → OnlyRest (putOf shares) (share skipped (s .present))
 
 front-none : (ns more : List ℕ) → ns ++ more ≡ [] → ns ≡ []
-front-none [] more h = refl
-front-none (n ∷ ns) more h = absurd (cons-ne-nil n _ h)
+front-none ns more h = append-eq-nil-iff .0 h .0
 
-pub back-none : (ns more : List ℕ) → ns ++ more ≡ [] → more ≡ []
-back-none [] more h = h
-back-none (n ∷ ns) more h = absurd (cons-ne-nil n _ h)
+back-none : (ns more : List ℕ) → ns ++ more ≡ [] → more ≡ []
+back-none ns more h = (append-eq-nil-iff {p = ns}) .0 h .1
 
 nothing-skipped : (b : Bool) → _≡_ {A = List ℕ} [] (pick b (take (throughEnd []) []) [])
 unfolding throughEnd

@@ -1,40 +1,17 @@
 -- The calls on an end, cut into stretches by each return to ErrorReset: what came and what was sent in each of them.
 -- Assumes nothing.
 use Prim.Native.Nat.{ℕ}
-use mathlib.Core.Bool.{Bool, true, false, _||_, _&&_}
+use mathlib.Core.Bool.{Bool, false, _||_, _&&_}
 use mathlib.Core.List.{List, [], _∷_, _++_}
 use lib.Dec.{eqb}
 use Rattle.vocabulary.specs.Choice.{pick}
 use Rattle.link.specs.Ends.{End}
-use Rattle.link_laws.specs.Calls.{Call, tick, send, take, reset, fault, control, receive, put, offer, ifAccepted}
-use Rattle.link_laws.specs.Calls.{Turn, turned}
-use Rattle.link_laws.specs.NothingLost.{heardBy, fell, sentBy}
+use Rattle.link_laws.specs.Calls.{isReset, ifAccepted, Turn, turned}
+use Rattle.link_laws.specs.NothingLost.{heardIn, fell, sentBy}
 
 -- the N-Chars that a call stored as they came from the wire
-abbrev pub heardIn : End → Call → List ℕ
-heardIn e tick = []
-heardIn e send = []
-heardIn e take = []
-heardIn e reset = []
-heardIn e (fault f) = []
-heardIn e (control c) = []
-heardIn e (receive t) = heardBy (e .link) t
-heardIn e (put n) = []
-heardIn e (offer v) = []
-
 abbrev pub receivedBy : End → Turn → List ℕ
 receivedBy e t = ifAccepted ((turned e t) .refusal) (heardIn e (t .call))
-
-abbrev pub isReset : Call → Bool
-isReset tick = false
-isReset send = false
-isReset take = false
-isReset reset = true
-isReset (fault f) = false
-isReset (control c) = false
-isReset (receive t) = false
-isReset (put n) = false
-isReset (offer v) = false
 
 -- "Reset goes to ErrorReset from any state", where it is not refused
 abbrev pub resetBy : End → Turn → Bool

@@ -6,7 +6,7 @@ use mathlib.Core.Path.{_≡_, ap, _∙_}
 use mathlib.Core.List.{List, _++_}
 use Prim.Native.Nat.{ℕ, _≤_, _<_}
 use lib.ListN.{length}
-use Rattle.characters.specs.declared.decoder.Decoder.the-variants.{Fresh}
+use Rattle.characters.specs.States.{Fresh}
 use Rattle.characters_stream.specs.Meaning.{Line}
 use Rattle.characters_stream.specs.Feeding.{fed}
 use Rattle.characters_stream.proofs.MeaningProofs.{says-what-is-meant, means-one-thing}

@@ -17,15 +17,9 @@ use Rattle.characters.specs.Wire.{goodParity}
 use Rattle.characters.specs.Decoder.{goesOn, stops, shifted, noBits, huntedFor, hunts, closes, escaped, bodyOdd, bodyOf, flagged, dataToken, dataBit, secondBit, bitStep}
 use Rattle.characters.specs.Refusals.{decoderRefusal}
 use Rattle.characters.specs.Calls.{bitAnswer, decodeAccepted, decodeRefused}
-use Rattle.characters.specs.declared.decoder.Waiting.{Waiting}
-use Rattle.characters.specs.declared.decoder.Waiting.the-variants.{Reported, Whole, Esc}
-use Rattle.characters.specs.declared.decoder.Phase.{Phase}
-use Rattle.characters.specs.declared.decoder.Phase.the-variants.{Hunting, Between, Parity, Data, Control, Second}
-use Rattle.characters.specs.declared.decoder.Decoder.{Decoder}
-use Rattle.characters.specs.declared.decoder.Decoder.the-variants.{Fresh, Heard, Stopped}
-use Rattle.characters.specs.declared.decoder.Step.{Step}
-use Rattle.characters.specs.declared.report.Report.{Report}
-use Rattle.characters.specs.declared.report.Report.the-variants.{Nothing, Got, ParityError, EscapeError, Disconnect}
+use Rattle.characters.specs.States.{Waiting, Reported, Whole, Esc, Phase, Hunting, Between, Parity, Data, Control}
+use Rattle.characters.specs.States.{Second, Decoder, Fresh, Heard, Stopped, Step, Report, Nothing, Got, ParityError}
+use Rattle.characters.specs.States.{EscapeError, Disconnect}
 use Rattle.characters_stream.specs.Feeding.{lineOf, fed}
 use Rattle.listing.specs.Ascii.{ascii}
 use Rattle.listing.specs.Decimal.{digit, decimalIn, decimal}

@@ -7,7 +7,7 @@ use Prim.Native.Nat.{ℕ, _≤_}
 use lib.Dec.{ltb}
 use lib.ListN.{length, take, drop}
 use Rattle.vocabulary.specs.Choice.{pick}
-use Rattle.characters.specs.declared.decoder.Decoder.the-variants.{Fresh}
+use Rattle.characters.specs.States.{Fresh}
 use Rattle.characters_stream.specs.Feeding.{fed}
 use Rattle.listing.specs.Ascii.{ascii}
 use Rattle.listing.specs.Input.{good, bitsIn}

@@ -7,8 +7,7 @@ use Rattle.vocabulary.specs.Choice.{pick}
 use Rattle.vocabulary.specs.NChars.{EOP}
 use Rattle.vocabulary.specs.declared.Token.{Token}
 use Rattle.vocabulary.specs.declared.Token.the-variants.{Null, Fct, NChar, TimeCode}
-use Rattle.characters.specs.declared.report.Report.{Report}
-use Rattle.characters.specs.declared.report.Report.the-variants.{Nothing, Got, ParityError, EscapeError, Disconnect}
+use Rattle.characters.specs.States.{Report, Nothing, Got, ParityError, EscapeError, Disconnect}
 use Rattle.characters_stream.specs.Meaning.{Line}
 use Rattle.listing.specs.Ascii.{ascii}
 use Rattle.listing.specs.Decimal.{decimal}

@@ -4,24 +4,28 @@ ghost use mathlib.Core.List.{[], _∷_};
 ghost use mathlib.Core.Bool.{false, true};
 ghost use Prim.Native.Nat.{_+_, _<_, _^_};
 ghost use lib.ListN.{length};
-ghost use Rattle.characters_stream.specs.Feeding.{lineOf};
+ghost use Rattle.vocabulary.specs.declared.Token.{Token};
+ghost use Rattle.characters.specs.States.{Fresh};
+ghost use Rattle.characters.specs.DecoderWords.{decoderWords, isDecoder};
 ghost use Rattle.listing.specs.Decimal.{digit, decimalIn};
 ghost use Rattle.listing.specs.Input.{bitOf, isSkipped, isGood, good, bitsIn};
-ghost use Rattle.listing.specs.Text.{valueLine, tokenText, reportText, lineText, textOf};
+ghost use Rattle.listing.specs.Text.{valueLine, tokenText};
 ghost use Rattle.listing.specs.Listing.{allLines, Rendered};
-ghost use Rattle.listing.specs.Writing.{Room, Written, moreText, Listed};
+ghost use Rattle.listing.specs.Writing.{Room, Written, kindText, kindLine, meant, moreText, Goes};
 use characters::decoder;
-use characters::decoder::Decoder;
-use characters::report;
-use characters::report::Report;
-use vocabulary::Token;
+use characters::kinds::ESCAPE_ERROR;
+use characters::kinds::FCT;
+use characters::kinds::N_CHAR;
+use characters::kinds::NULL;
+use characters::kinds::PARITY_ERROR;
+use characters::kinds::TIME_CODE;
 
 // No listing is longer than this: a buffer of so many bytes holds any.
 pub const ROOM: usize = 163874;
 
 // A listing as far as its bits have been taken: the count of bits, and where in the buffer the next line goes.
-struct Progress {
-    decoder: Decoder,
+struct Listing {
+    words: decoder::Words,
     count: usize,
     at: usize,
 }
@@ -73,7 +77,7 @@ fn put_value(out: &mut [u8], at: usize, word: &[u8], n: usize) -> usize
     put(out, end, b"\n")
 }
 
-fn put_n_char(out: &mut [u8], at: usize, n: u16) -> usize
+fn put_n_char(out: &mut [u8], at: usize, n: u32) -> usize
     requires { ⌜ Room (now out) at (tokenText (Token.NChar n)) ⌝ }
     ensures { λ r. ⌜ Written (now (out .entry)) at (tokenText (Token.NChar n)) r (now (out .exit)) ⌝ }
 {
@@ -88,82 +92,70 @@ fn put_n_char(out: &mut [u8], at: usize, n: u16) -> usize
     }
 }
 
-fn put_token(out: &mut [u8], at: usize, t: Token) -> usize
-    requires { ⌜ Room (now out) at (tokenText t) ⌝ }
-    ensures { λ r. ⌜ Written (now (out .entry)) at (tokenText t) r (now (out .exit)) ⌝ }
+fn put_report(out: &mut [u8], at: usize, kind: u32, value: u32) -> usize
+    requires { ⌜ Room (now out) at (kindText kind value) ⌝ }
+    ensures { λ r. ⌜ Written (now (out .entry)) at (kindText kind value) r (now (out .exit)) ⌝ }
 {
-    match t {
-        Token::Null => put(out, at, b"NULL\n"),
-        Token::Fct => put(out, at, b"FCT\n"),
-        Token::NChar(n) => put_n_char(out, at, n),
-        Token::TimeCode(v) => put_value(out, at, b"TIME ", v as usize),
-    }
-}
-
-fn put_report(out: &mut [u8], at: usize, r: Report) -> usize
-    requires { ⌜ Room (now out) at (reportText r) ⌝ }
-    ensures { λ next. ⌜ Written (now (out .entry)) at (reportText r) next (now (out .exit)) ⌝ }
-{
-    match r {
-        Report::Nothing => at,
-        Report::Got(t) => put_token(out, at, t),
-        Report::ParityError => put(out, at, b"PARITY\n"),
-        Report::EscapeError => put(out, at, b"ESCAPE\n"),
-        Report::Disconnect => at,
+    match kind {
+        NULL => put(out, at, b"NULL\n"),
+        FCT => put(out, at, b"FCT\n"),
+        N_CHAR => put_n_char(out, at, value),
+        TIME_CODE => put_value(out, at, b"TIME ", value as usize),
+        PARITY_ERROR => put(out, at, b"PARITY\n"),
+        ESCAPE_ERROR => put(out, at, b"ESCAPE\n"),
+        _ => at,
     }
 }
 
 // The line of a report, if there is one.
-fn put_line(out: &mut [u8], at: usize, number: usize, r: Report) -> usize
-    requires { ⌜ Room (now out) at (textOf (lineOf number r)) ⌝ }
-    ensures { λ next. ⌜ Written (now (out .entry)) at (textOf (lineOf number r)) next (now (out .exit)) ⌝ }
+fn put_line(out: &mut [u8], at: usize, number: usize, kind: u32, value: u32) -> usize
+    requires { ⌜ Room (now out) at (kindLine number kind value) ⌝ }
+    ensures { λ next. ⌜ Written (now (out .entry)) at (kindLine number kind value) next (now (out .exit)) ⌝ }
 {
-    if report::report_kind(r) == 0 {
+    if kind == 0 {
         at
     } else {
         let space = put_number(out, at, 5, number);
         let word = put(out, space, b" ");
-        put_report(out, word, r)
+        put_report(out, word, kind, value)
     }
 }
 
-fn take_bit(out: &mut [u8], p: Progress, b: bool) -> Progress
-    requires { ⌜ Room (now out) (p .at) (moreText p (b ∷ [])) ⌝ }
-    requires { ⌜ p .count + 1 < 2 ^ 64 ⌝ }
-    ensures { λ r. ⌜ Listed (now (out .entry)) p (b ∷ []) r (now (out .exit)) ⌝ }
+fn take_bit(out: &mut [u8], l: Listing, b: bool) -> Listing
+    requires { ⌜ Room (now out) (l .at) (moreText (meant l) (b ∷ [])) ⌝ }
+    requires { ⌜ (l .count + 1 < 2 ^ 64) × (isDecoder (l .words) ≡ true) ⌝ }
+    ensures { λ r. ⌜ Goes (now (out .entry)) l (b ∷ []) r (now (out .exit)) ⌝ }
 {
-    let before = p.decoder;
-    let count = p.count + 1;
-    let from = p.at;
-    let answer = decoder::bit(before, b);
-    let decoder = answer.decoder;
-    let report = answer.report;
-    let at = put_line(out, from, count, report);
-    Progress { decoder, count, at }
+    let mut words = l.words;
+    let mut report = [0u32; 2];
+    decoder::bit(&mut words, words::truth_word(b), &mut report);
+    let count = l.count + 1;
+    let at = put_line(out, l.at, count, report[0], report[1]);
+    Listing { words, count, at }
 }
 
-fn take_byte(out: &mut [u8], p: Progress, byte: u8) -> Progress
-    requires { ⌜ Room (now out) (p .at) (moreText p (bitOf byte)) ⌝ }
-    requires { ⌜ p .count + 1 < 2 ^ 64 ⌝ }
-    ensures { λ r. ⌜ Listed (now (out .entry)) p (bitOf byte) r (now (out .exit)) ⌝ }
+fn take_byte(out: &mut [u8], l: Listing, byte: u8) -> Listing
+    requires { ⌜ Room (now out) (l .at) (moreText (meant l) (bitOf byte)) ⌝ }
+    requires { ⌜ (l .count + 1 < 2 ^ 64) × (isDecoder (l .words) ≡ true) ⌝ }
+    ensures { λ r. ⌜ Goes (now (out .entry)) l (bitOf byte) r (now (out .exit)) ⌝ }
 {
     if byte == b'0' {
-        take_bit(out, p, false)
+        take_bit(out, l, false)
     } else {
         if byte == b'1' {
-            take_bit(out, p, true)
+            take_bit(out, l, true)
         } else {
-            p
+            l
         }
     }
 }
 
-fn take_bytes(out: &mut [u8], p: Progress, bytes: &[u8]) -> Progress
-    requires { ⌜ Room (now out) (p .at) (moreText p (bitsIn (now bytes))) ⌝ }
-    requires { ⌜ p .count ≡ 0 ⌝ }
-    ensures { λ r. ⌜ Listed (now (out .entry)) p (bitsIn (now (bytes .entry))) r (now (out .exit)) ⌝ }
+fn take_bytes(out: &mut [u8], l: Listing, bytes: &[u8]) -> Listing
+    requires { ⌜ Room (now out) (l .at) (moreText (meant l) (bitsIn (now bytes))) ⌝ }
+    requires { ⌜ (l .count ≡ 0) × (isDecoder (l .words) ≡ true) ⌝ }
+    ensures { λ r. ⌜ Goes (now (out .entry)) l (bitsIn (now (bytes .entry))) r (now (out .exit)) ⌝ }
 {
-    let mut now = p;
+    let mut now = l;
     let mut i = 0;
     while i < bytes.len() {
         now = take_byte(out, now, bytes[i]);
@@ -207,17 +199,25 @@ fn good_length(input: &[u8]) -> usize
     i
 }
 
+fn start() -> Listing
+    ensures { λ r. ⌜ r ≡ record { words = decoderWords Fresh; count = 0; at = 0 } ⌝ }
+{
+    let mut words = [0u32; decoder::WORDS];
+    decoder::fresh(&mut words);
+    Listing {
+        words,
+        count: 0,
+        at: 0,
+    }
+}
+
 fn put_lines(out: &mut [u8], input: &[u8]) -> usize
     requires { ⌜ Room (now out) 0 (allLines (now input)) ⌝ }
     ensures { λ r. ⌜ Written (now (out .entry)) 0 (allLines (now (input .entry))) r (now (out .exit)) ⌝ }
 {
     let end = good_length(input);
-    let start = Progress {
-        decoder: decoder::fresh(),
-        count: 0,
-        at: 0,
-    };
-    let done = take_bytes(out, start, &input[..end]);
+    let first = start();
+    let done = take_bytes(out, first, &input[..end]);
     let at = done.at;
     let count = done.count;
     if end < input.len() {

@@ -8,13 +8,11 @@ use Rattle.vocabulary.specs.Tokens.{kindOf, valueOf}
 use Rattle.vocabulary.specs.declared.Token.{Token}
 use Rattle.vocabulary.specs.declared.Token.the-variants.{Null, Fct, NChar, TimeCode}
 use Rattle.characters.specs.Reports.{reportKind, reportValue}
-use Rattle.characters.specs.declared.report.Report.{Report}
-use Rattle.characters.specs.declared.report.Report.the-variants.{Nothing, Got, ParityError, EscapeError, Disconnect}
+use Rattle.characters.specs.States.{Report, Nothing, Got, ParityError, EscapeError, Disconnect}
 use Rattle.link.specs.Table.{stateOf}
 use Rattle.link.proofs.TableLaws.{state-of-number}
 use Rattle.link.specs.Send.{sentKind, sentValue, offerNumber, offerValue}
-use Rattle.link.specs.declared.Offer.{Offer}
-use Rattle.link.specs.declared.Offer.the-variants.{Absent, Code}
+use Rattle.link.specs.Records.{Offer, Absent, Code}
 use Rattle.link.specs.declared.Sent.{Sent}
 use Rattle.link.specs.declared.Sent.the-variants.{Silence, Sends}
 use Rattle.router_table.specs.Headings.{headingNumber, headingValues}

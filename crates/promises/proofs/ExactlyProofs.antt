@@ -9,20 +9,15 @@ use borrow.Author.Tests.{eqb-true}
 use Rattle.vocabulary.specs.Choice.{pick}
 use Rattle.characters.specs.Encoder.{sent}
 use Rattle.characters.specs.Calls.{bitAnswer, tickAnswer, encodeAnswer, encodeRefused, decodeAccepted, decodeRefused}
-use Rattle.characters.specs.declared.decoder.Decoded.{Decoded}
-use Rattle.characters.specs.declared.encoder.Encoded.{Encoded}
-use Rattle.link.specs.Calls.{Outcome, refusedWith, answered, accepted, refused, tickOutcome, faultOutcome, controlOutcome}
-use Rattle.link.specs.Calls.{resetOutcome, dispatchOf, dispatched, sendRefused, sendOutcome, receiptOf, received}
-use Rattle.link.specs.Calls.{receiveRefused, tokenAccepted, receiveOutcome, putAnswer, takeAccepted, takeRefused}
-use Rattle.link.specs.Calls.{takeAnswer, offerAccepted, offerAnswer}
-use Rattle.link.specs.declared.Answer.{Answer}
-use Rattle.link.specs.declared.Dispatch.{Dispatch}
-use Rattle.link.specs.declared.Receipt.{Receipt}
-use Rattle.link.specs.declared.Taken.{Taken}
+use Rattle.characters.specs.States.{Decoded, Encoded}
+use Rattle.link.specs.Calls.{Outcome, refusedWith, answered, accepted, refused, tickOutcome, faultOutcome}
+use Rattle.link.specs.Calls.{controlOutcome, resetOutcome, dispatchOf, dispatched, sendRefused, sendOutcome}
+use Rattle.link.specs.Calls.{receiptOf, received, receiveRefused, tokenAccepted, receiveOutcome, putAnswer}
+use Rattle.link.specs.Calls.{takeAccepted, takeRefused, takeAnswer, offerAccepted, offerAnswer}
+use Rattle.link.specs.Records.{Answer, Dispatch, Receipt, Taken}
 use Rattle.router.specs.Calls.{Put, puts, Took, tookOne, takes, Run, told as routerTold, runs, readsRow}
 use Rattle.router.specs.Held.{heldThrough, heldRefused, stillHeld}
-use Rattle.router.specs.declared.RowRead.{RowRead}
-use Rattle.router.specs.declared.StillHeld.{StillHeld}
+use Rattle.router.specs.Records.{RowRead, StillHeld}
 use Rattle.promises.specs.Exactly.{RefusedExactly}
 
 -- what is read off an answer that is accepted where the number is 0, and refused with the number elsewhere, is the number

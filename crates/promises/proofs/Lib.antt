@@ -9,9 +9,7 @@ pub mod RoundsAnswers
 pub mod PortsAnswers
 pub mod TableAnswers
 pub mod WordsAnswers
-pub mod PortWordsAnswers
-pub mod RouterWordsAnswers
-pub mod ConsoleAnswers
+pub mod ExportAnswers
 pub mod ExactlyProofs
 pub mod StarredProofs
 pub mod WorthlessProofs

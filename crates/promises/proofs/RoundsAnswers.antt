@@ -19,10 +19,10 @@ run κs a x y s t p q =
       errors = m .errors;
       changed = m .changed;
     })
-    (p ∙ sym q)
+    (p .0 ∙ sym (q .0))
 
 pub run-state : OnePlaces 3 run-kinds.ps run-kinds.r run-reads.Post (λ κs s. now (s .0))
-run-state κs a x y s t p q = ap (λ (m : Tally Words). m .now .state) (p ∙ sym q)
+run-state κs a x y s t p q = ap (λ (m : Tally Words). m .now .state) (p .0 ∙ sym (q .0))
 
 pub run-area : OnePlaces 3 run-kinds.ps run-kinds.r run-reads.Post (λ κs s. now (s .1 .0))
-run-area κs a x y s t p q = ap (λ (m : Tally Words). m .now .area) (p ∙ sym q)
+run-area κs a x y s t p q = ap (λ (m : Tally Words). m .now .area) (p .0 ∙ sym (q .0))

@@ -18,8 +18,8 @@ use Rattle.router_table.proofs.read.Reads as read-reads
 use Rattle.router_table.proofs.heading_of.Kinds as heading-of-kinds
 use Rattle.router_table.proofs.heading_of.Reads as heading-of-reads
 
-pub fresh : OneResult 0 fresh-kinds.ps fresh-kinds.r fresh-reads.Post
-fresh κs a x y s t p q = p ∙ sym q
+pub fresh-table : OnePlaces 1 fresh-kinds.ps fresh-kinds.r fresh-reads.Post (λ κs s. now (s .0))
+fresh-table κs a x y s t p q = p ∙ sym q
 
 pub outside-rows : OneResult 0 outside-rows-kinds.ps outside-rows-kinds.r outside-rows-reads.Post
 outside-rows κs a x y s t p q = p ∙ sym q

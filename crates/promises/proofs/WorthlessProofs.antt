@@ -1,123 +1,194 @@
 -- Each promise is an equation with a definition: what the definition computes to at the arguments named is not what such a
--- build answers there.
+-- build answers or leaves there.
 -- Assumes nothing.
 use mathlib.Core.Path.{_≡_, refl, sym, ap, _∙_}
-use mathlib.Core.Bool.{Bool, true, false, false≢true}
-use native.Mathlib.Omega.{arith}
-use lib.Dec.{eqb}
-use Rattle.vocabulary.specs.declared.Token.{Token}
-use Rattle.vocabulary.specs.declared.Token.the-variants.{Null, Fct}
+use mathlib.Core.List.{List}
+use Prim.Native.Nat.{ℕ, _≤_}
+use mathlib.Core.Bool.{Bool, true, false}
+use denote.Ref.{now}
+use lib.Dec.{eqb, leb}
+use borrow.Author.Tests.{leb-false}
+use Rattle.vocabulary.specs.Choice.{pick}
+use Rattle.vocabulary.specs.declared.Token.the-variants.{Null}
 use Rattle.vocabulary.specs.Tokens.{kindOf}
-use Rattle.store.specs.Ring.{standing}
-use Rattle.store.specs.Packets.{throughEnd, holdsEnd}
+use native.Mathlib.Omega.{arith}
+use Rattle.words.specs.Words.{Left, wordAt}
+use Rattle.link.specs.LinkCalls.{LinkLeft, ReceiveLeft}
+use Rattle.router.specs.RouterCalls.{RouterLeft}
+use Rattle.router.specs.HeldCalls.{HeldLeft}
+use Rattle.words.specs.Arguments.{tokenOf}
+use Rattle.words.specs.Words.{same}
 use Rattle.store.specs.Changes.{freshStore, putStore, putPlaces, dropped, foundIn, found}
-use Rattle.time.specs.Time.{freshTime}
-use Rattle.characters.specs.Encoder.{sent}
-use Rattle.characters.specs.Decoder.{goesOn, flagged}
-use Rattle.characters.specs.Calls.{bitAnswer, tickAnswer, encodeAnswer, decodeAccepted}
-use Rattle.characters.specs.declared.decoder.Decoded.{Decoded}
-use Rattle.characters.specs.declared.encoder.Encoded.{Encoded}
-use Rattle.characters.specs.declared.report.Report.{Report}
-use Rattle.characters.specs.declared.report.Report.the-variants.{Nothing, Got, ParityError, EscapeError, Disconnect}
-use Rattle.link.specs.Ends.{settledAt, noCredit, freshLink, withStage, withMarks, withRx, withTx}
-use Rattle.link.specs.Moves.{isState, conditions, entered}
-use Rattle.link.specs.Received.{counted}
-use Rattle.link.specs.Recovery.{cleared, closedLink, restDiscarded, goesDown, movesTo, settles}
-use Rattle.link.specs.Reset.{resets}
-use Rattle.link.specs.Hosts.{putDiscarded, puts}
-use Rattle.link.specs.Calls.{Outcome, answered, accepted, tickOutcome, faultOutcome, controlOutcome}
-use Rattle.link.specs.Calls.{resetOutcome, dispatchOf, dispatched, sendOutcome, receiptOf, received}
-use Rattle.link.specs.Calls.{tokenAccepted, receiveOutcome, putAnswer, takeAccepted, takeAnswer, offerAccepted}
-use Rattle.link.specs.Calls.{offerAnswer}
-use Rattle.link.specs.declared.LinkState.the-variants.{ErrorReset}
-use Rattle.link.specs.declared.Answer.{Answer}
-use Rattle.link.specs.declared.Dispatch.{Dispatch}
-use Rattle.link.specs.declared.Receipt.{Receipt}
-use Rattle.link.specs.declared.Taken.{Taken}
-use Rattle.router_table.specs.Rows.{freshTable}
-use Rattle.router_table.specs.Headings.{toPort, addressHeading, heading}
+use Rattle.store.specs.Packets.{throughEnd, holdsEnd}
+use Rattle.store.specs.Ring.{standing}
+use Rattle.store.specs.StoreWords.{storeOf}
+use Rattle.time.specs.Time.{freshTime, timeAfter}
+use Rattle.characters.specs.Calls.{encodeRefused, encodeAnswer, decodeRefused, decodeAccepted, bitAnswer, tickAnswer}
+use Rattle.characters.specs.Decoder.{goesOn, stops, hunts, flagged, dataBit, silence}
+use Rattle.characters.specs.DecoderWords.{waitingOf, decoderFrom, decoderOf, isGoodAs, isGood, decoded, noDecoder}
+use Rattle.characters.specs.DecoderWords.{bitLeft, tickLeft as decoderTickLeft}
+use Rattle.characters.specs.Encoder.{freshEncoder, sent}
+use Rattle.characters.specs.EncoderWords.{encoderOf, encoded, noEncoder, encodeLeft}
+use Rattle.link.specs.Calls.{refusedWith, answered, accepted, refused, tickOutcome, faultOutcome, controlOutcome}
+use Rattle.link.specs.Calls.{resetOutcome, dispatchOf, dispatched, sendRefused, sendOutcome, receiptOf, received}
+use Rattle.link.specs.Calls.{receiveRefused, tokenAccepted, receiveOutcome, putAnswer, putPlacesAfter, takeAccepted}
+use Rattle.link.specs.Calls.{takeRefused, takeAnswer, offerAccepted, offerAnswer}
+use Rattle.link.specs.Credit.{withHeld, withGiven}
+use Rattle.link.specs.Ends.{settledAt, noCredit, freshLink, withStage, withControls, withCredit, withMarks}
+use Rattle.link.specs.Ends.{withOffer, withRx, withTx, markStored, markSent, markTaken, markPut, markDiscarding}
+use Rattle.link.specs.Hosts.{putDiscarded, putStored, puts, putsPlaces, takes, offers}
+use Rattle.link.specs.LinkCalls.{noLink, endOf, answerLeft, tickLeft, resetLeft, asAnswer, numberedFault, faultLeft}
+use Rattle.link.specs.LinkCalls.{controlsOf, controlLeft, dispatchLeft, sendLeft, receiptLeft, noReceipt}
+use Rattle.link.specs.LinkCalls.{receiveLeft, putDone, putLeft, taken, takeLeft, offered, offerLeft}
+use Rattle.link.specs.LinkWords.{linkWords, stageIn, controlsIn, creditIn, marksIn, linkOf, timeOf}
+use Rattle.link.specs.Moves.{conditions, entered}
+use Rattle.link.specs.Received.{effect, gotNull, fctEffect, storedLink, nCharEffect, timeCodeEffect, tokenEffect}
+use Rattle.link.specs.Received.{tokenPlaces, counted}
+use Rattle.link.specs.Recovery.{cleared, closedLink, closedPlaces, discardedLink, restDiscarded, goesDown, movesTo}
+use Rattle.link.specs.Recovery.{settles}
+use Rattle.link.specs.Reset.{emptied, emptiedPlaces, resets}
+use Rattle.link.specs.Send.{nullSent, nCharSent, sending}
+use Rattle.link.specs.Table.{firstFrom}
+use Rattle.router_table.specs.Headings.{toPort, byRow, rowHeading, addressHeading, heading}
+use Rattle.router_table.specs.Rows.{freshTable, withRow}
 use Rattle.router_ports.specs.Each.{each, any}
-use Rattle.router_ports.specs.Ports.{freshRouter, modeAt, withMode, withOutput, withStore}
 use Rattle.router_ports.specs.Places.{withoutFront, withBehind}
-use Rattle.router_ports.specs.Refusals.{isRouted, badPorts, badStores}
-use Rattle.router_rounds.specs.Acts.{changedTo, countRound}
+use Rattle.router_ports.specs.Ports.{freshRouter, withMode, withOutput, withStore}
+use Rattle.router_ports.specs.Refusals.{badPorts, badStores}
+use Rattle.router_ports.specs.RouterWords.{listed, routerWords, wantedOf, modeOf, inputIn, outputIn, routerOf}
+use Rattle.router_ports.specs.RouterWords.{withModeIn, withOutputIn, withStoreIn, withoutFrontIn, withBehindIn}
+use Rattle.router_rounds.specs.Acts.{changedTo, countMoved, countError, countRound}
 use Rattle.router_rounds.specs.Addresses.{waits, reads, addresses, part1}
 use Rattle.router_rounds.specs.Grants.{cyclic, candidates, firstThat, granted, grants, part2}
-use Rattle.router_rounds.specs.Moves.{frees, carries, moves, movesOne, sends, part3}
+use Rattle.router_rounds.specs.Moves.{frees, carries, moves, movesOne, spills, spillsOne, sends, part3}
 use Rattle.router_rounds.specs.Rounds.{begun, round, rounds}
-use Rattle.router.specs.Calls.{Put, Took, Run, puts as routerPuts, tookOne, takes as routerTakes, told, runs, readsRow}
-use Rattle.router.specs.declared.RowRead.{RowRead}
-use Rattle.router.proofs.CaseProofs.{router-cases}
+use Rattle.router.specs.Calls.{puts as routerPuts, tookOne, takes as routerTakes, told, runs, writesRow, readsRow}
+use Rattle.router.specs.Held.{setOf, wantedBy, unread, setsOf, nothingHeld, heldThrough, heldRefused, stillHeld}
+use Rattle.router.specs.HeldCalls.{heldWords, asked, heldLeft}
+use Rattle.router.specs.RouterCalls.{noRouter, put as routerPut, putLeft as routerPutLeft, took}
+use Rattle.router.specs.RouterCalls.{takeLeft as routerTakeLeft, ran, runLeft, tableLeft, rowLeft}
 use Rattle.promises.specs.Promises.{Build, BreaksAt, Bit, Tick, RouterRun}
 use Rattle.promises.specs.Worthless.{RefusingAll, SaysOnlyNull, bit14, StaysInErrorReset, tick64, IdleLater}
 use Rattle.promises.specs.Worthless.{toOutput3, Inventing, WorthlessBuildsShutOut, nullFor, WorthlessBuilds}
 
 refusing-all : RefusingAll
 unfolding
-    freshStore freshTime sent bitAnswer tickAnswer encodeAnswer decodeAccepted noCredit freshLink withStage withMarks
-    withRx answered accepted tickOutcome faultOutcome controlOutcome resetOutcome dispatchOf dispatched sendOutcome
-    receiptOf received tokenAccepted receiveOutcome putAnswer takeAccepted takeAnswer offerAccepted offerAnswer any
-    freshRouter withStore badPorts badStores routerPuts tookOne routerTakes told runs readsRow
+    tokenOf same freshStore putStore putPlaces dropped foundIn found throughEnd holdsEnd standing storeOf freshTime
+    timeAfter encodeRefused encodeAnswer decodeRefused decodeAccepted bitAnswer tickAnswer goesOn stops hunts flagged
+    dataBit silence waitingOf decoderFrom decoderOf isGoodAs isGood decoded noDecoder bitLeft decoderTickLeft
+    freshEncoder sent encoderOf encoded noEncoder encodeLeft refusedWith answered accepted refused tickOutcome
+    faultOutcome controlOutcome resetOutcome dispatchOf dispatched sendRefused sendOutcome receiptOf received
+    receiveRefused tokenAccepted receiveOutcome putAnswer putPlacesAfter takeAccepted takeRefused takeAnswer
+    offerAccepted offerAnswer withHeld withGiven settledAt noCredit freshLink withStage withControls withCredit
+    withMarks withOffer withRx withTx markStored markSent markTaken markPut markDiscarding putDiscarded putStored puts
+    putsPlaces takes offers noLink endOf answerLeft tickLeft resetLeft asAnswer numberedFault faultLeft controlsOf
+    controlLeft dispatchLeft sendLeft receiptLeft noReceipt receiveLeft putDone putLeft taken takeLeft offered
+    offerLeft linkWords stageIn controlsIn creditIn marksIn linkOf timeOf conditions entered effect gotNull fctEffect
+    storedLink nCharEffect timeCodeEffect tokenEffect tokenPlaces counted cleared closedLink closedPlaces
+    discardedLink restDiscarded goesDown movesTo settles emptied emptiedPlaces resets nullSent nCharSent sending
+    firstFrom toPort byRow rowHeading addressHeading heading freshTable withRow each any withoutFront withBehind
+    freshRouter withMode withOutput withStore badPorts badStores listed routerWords wantedOf modeOf inputIn outputIn
+    routerOf withModeIn withOutputIn withStoreIn withoutFrontIn withBehindIn changedTo countMoved countError
+    countRound waits reads addresses part1 cyclic candidates firstThat granted grants part2 frees carries moves
+    movesOne spills spillsOne sends part3 begun round rounds routerPuts tookOne routerTakes told runs writesRow
+    readsRow setOf wantedBy unread setsOf nothingHeld heldThrough heldRefused stillHeld heldWords asked heldLeft
+    noRouter routerPut routerPutLeft took routerTakeLeft ran runLeft tableLeft rowLeft
 refusing-all =
     record {
-      encode = λ build refuses κs left kept. refuses κs _ (ap (λ (a : Encoded). a .refusal) kept);
-      bit = λ build refuses κs left kept. refuses κs _ (ap (λ (a : Decoded). a .refusal) kept);
-      decoder-tick = λ build refuses κs left kept. refuses κs _ (ap (λ (a : Decoded). a .refusal) kept);
-      tick = λ build refuses κs left kept. refuses κs _ (ap (λ (o : Outcome Answer). o .answer .refusal) kept);
-      fault = λ build refuses κs left kept. refuses κs _ (ap (λ (o : Outcome Answer). o .answer .refusal) kept);
-      control = λ build refuses κs left kept. refuses κs _ (ap (λ (o : Outcome Answer). o .answer .refusal) kept);
-      reset = λ build refuses κs left kept. refuses κs _ (ap (λ (o : Outcome Answer). o .answer .refusal) kept);
-      send = λ build refuses κs left kept. refuses κs _ (ap (λ (o : Outcome Dispatch). o .answer .refusal) kept);
-      receive = λ build refuses κs left kept. refuses κs _ (ap (λ (o : Outcome Receipt). o .answer .refusal) kept);
-      put = λ build refuses κs left kept. refuses κs _ (ap (λ (a : Answer). a .refusal) (kept .0));
-      take = λ build refuses κs left kept. refuses κs _ (ap (λ (a : Taken). a .refusal) kept);
-      offer = λ build refuses κs left kept. refuses κs _ (ap (λ (a : Answer). a .refusal) kept);
-      router-put = λ build refuses κs left kept. refuses κs _ (ap (λ (o : Put). o .refusal) kept);
-      router-take = λ build refuses κs left kept. refuses κs _ (ap (λ (o : Took). o .refusal) kept);
-      router-run = λ build refuses κs left kept. refuses κs _ (ap (λ (o : Run). o .refusal) kept);
-      router-write = λ build refuses κs left kept. refuses κs _ (kept .0);
-      router-read = λ build refuses κs left kept. refuses κs _ (ap (λ (a : RowRead). a .refusal) kept);
+      encode = λ build refuses κs kept. refuses κs _ (ap (λ (left : Left). left .refusal) kept);
+      bit = λ build refuses κs kept. refuses κs _ (ap (λ (left : Left). left .refusal) kept);
+      decoder-tick = λ build refuses κs kept. refuses κs _ (ap (λ (left : Left). left .refusal) kept);
+      tick = λ build refuses κs kept. refuses κs _ (ap (λ (left : LinkLeft). left .refusal) kept);
+      fault = λ build refuses κs kept. refuses κs _ (ap (λ (left : LinkLeft). left .refusal) kept);
+      control = λ build refuses κs kept. refuses κs _ (ap (λ (left : LinkLeft). left .refusal) kept);
+      reset = λ build refuses κs kept. refuses κs _ (ap (λ (left : LinkLeft). left .refusal) kept);
+      send = λ build refuses κs kept. refuses κs _ (ap (λ (left : LinkLeft). left .refusal) kept);
+      receive = λ build refuses κs kept. refuses κs _ (ap (λ (left : ReceiveLeft). left .refusal) kept);
+      put = λ build refuses κs kept. refuses κs _ (ap (λ (left : LinkLeft). left .refusal) kept);
+      take = λ build refuses κs kept. refuses κs _ (ap (λ (left : Left). left .refusal) kept);
+      offer = λ build refuses κs kept. refuses κs _ (ap (λ (left : Left). left .refusal) kept);
+      router-put = λ build refuses κs kept. refuses κs _ (ap (λ (left : RouterLeft). left .refusal) kept);
+      router-take = λ build refuses κs kept. refuses κs _ (ap (λ (left : RouterLeft). left .refusal) kept);
+      router-run = λ build refuses κs kept. refuses κs _ (ap (λ (left : RouterLeft). left .refusal) kept);
+      router-write = λ build refuses κs kept. refuses κs _ (kept .0);
+      router-read = λ build refuses κs kept. refuses κs _ (kept .0);
+      router-held = λ build refuses κs kept. refuses κs _ (ap (λ (left : HeldLeft). left .refusal) kept);
     }
 
 saying-null : (build : Build Bit) → SaysOnlyNull build → BreaksAt Bit bit14 build
-unfolding bitAnswer decodeAccepted flagged goesOn
-saying-null build null κs left kept =
-    false≢true (ap (λ t. eqb (kindOf t) 1) (null κs _ Fct (ap (λ (a : Decoded). a .report) kept)))
+unfolding
+    tokenOf same freshStore putStore putPlaces dropped foundIn found throughEnd holdsEnd standing storeOf freshTime
+    timeAfter encodeRefused encodeAnswer decodeRefused decodeAccepted bitAnswer tickAnswer goesOn stops hunts flagged
+    dataBit silence waitingOf decoderFrom decoderOf isGoodAs isGood decoded noDecoder bitLeft decoderTickLeft
+    freshEncoder sent encoderOf encoded noEncoder encodeLeft
+saying-null build null κs kept =
+    let kind = ap (λ (left : Left). wordAt (left .out) 0) kept in
+    absurd (omega (arith, kind, null κs (bit14 κs) (omega (arith, kind)) (omega (arith, kind))))
 
 staying : (build : Build Tick) → StaysInErrorReset build → BreaksAt Tick tick64 build
 unfolding
-    freshStore noCredit freshLink withStage counted conditions entered settledAt movesTo settles answered accepted
-    tickOutcome
-staying build stays κs left kept =
-    false≢true
-    (sym (ap (λ (o : Outcome Answer). isState (o .answer .link .stage .state) ErrorReset) kept)
-    ∙ ap (λ s. isState s ErrorReset) (stays κs _ refl))
-
-idle-later : (build : Build RouterRun) → IdleLater build → BreaksAt RouterRun toOutput3 build
-unfolding
-    freshStore putStore putPlaces dropped freshTable toPort addressHeading heading each any freshRouter withMode
-    withOutput withStore withoutFront withBehind badPorts badStores changedTo countRound waits reads addresses part1
-    cyclic candidates firstThat granted grants part2 frees carries moves movesOne sends part3 begun round rounds
-    routerPuts told runs
-idle-later build idles κs left kept =
-    false≢true
-    (sym (ap (λ (o : Run). isRouted (modeAt (o .now .router) 1) 3) kept)
-    ∙ ap (λ s. isRouted (modeAt s 1) 3) (idles κs _ _ _ 9))
+    tokenOf same freshStore putStore putPlaces dropped foundIn found throughEnd holdsEnd standing storeOf freshTime
+    timeAfter refusedWith answered accepted refused tickOutcome faultOutcome controlOutcome resetOutcome dispatchOf
+    dispatched sendRefused sendOutcome receiptOf received receiveRefused tokenAccepted receiveOutcome putAnswer
+    putPlacesAfter takeAccepted takeRefused takeAnswer offerAccepted offerAnswer withHeld withGiven settledAt noCredit
+    freshLink withStage withControls withCredit withMarks withOffer withRx withTx markStored markSent markTaken
+    markPut markDiscarding putDiscarded putStored puts putsPlaces takes offers noLink endOf answerLeft tickLeft
+    resetLeft asAnswer numberedFault faultLeft controlsOf controlLeft dispatchLeft sendLeft receiptLeft noReceipt
+    receiveLeft putDone putLeft taken takeLeft offered offerLeft linkWords stageIn controlsIn creditIn marksIn linkOf
+    timeOf conditions entered effect gotNull fctEffect storedLink nCharEffect timeCodeEffect tokenEffect tokenPlaces
+    counted cleared closedLink closedPlaces discardedLink restDiscarded goesDown movesTo settles emptied emptiedPlaces
+    resets nullSent nCharSent sending firstFrom
+staying build stays κs kept =
+    absurd (omega (arith, ap (λ (left : LinkLeft). wordAt (left .state) 0) kept, stays κs (tick64 κs) refl))
 
 inventing : Inventing
 unfolding
-    freshStore standing throughEnd holdsEnd foundIn found noCredit freshLink withStage withMarks withTx conditions
-    settledAt cleared closedLink restDiscarded goesDown movesTo settles resets putDiscarded puts answered accepted
-    faultOutcome resetOutcome putAnswer
+    tokenOf same freshStore putStore putPlaces dropped foundIn found throughEnd holdsEnd standing storeOf freshTime
+    timeAfter encodeRefused encodeAnswer decodeRefused decodeAccepted bitAnswer tickAnswer goesOn stops hunts flagged
+    dataBit silence waitingOf decoderFrom decoderOf isGoodAs isGood decoded noDecoder bitLeft decoderTickLeft
+    freshEncoder sent encoderOf encoded noEncoder encodeLeft refusedWith answered accepted refused tickOutcome
+    faultOutcome controlOutcome resetOutcome dispatchOf dispatched sendRefused sendOutcome receiptOf received
+    receiveRefused tokenAccepted receiveOutcome putAnswer putPlacesAfter takeAccepted takeRefused takeAnswer
+    offerAccepted offerAnswer withHeld withGiven settledAt noCredit freshLink withStage withControls withCredit
+    withMarks withOffer withRx withTx markStored markSent markTaken markPut markDiscarding putDiscarded putStored puts
+    putsPlaces takes offers noLink endOf answerLeft tickLeft resetLeft asAnswer numberedFault faultLeft controlsOf
+    controlLeft dispatchLeft sendLeft receiptLeft noReceipt receiveLeft putDone putLeft taken takeLeft offered
+    offerLeft linkWords stageIn controlsIn creditIn marksIn linkOf timeOf conditions entered effect gotNull fctEffect
+    storedLink nCharEffect timeCodeEffect tokenEffect tokenPlaces counted cleared closedLink closedPlaces
+    discardedLink restDiscarded goesDown movesTo settles emptied emptiedPlaces resets nullSent nCharSent sending
+    firstFrom toPort byRow rowHeading addressHeading heading freshTable withRow each any withoutFront withBehind
+    freshRouter withMode withOutput withStore badPorts badStores listed routerWords wantedOf modeOf inputIn outputIn
+    routerOf withModeIn withOutputIn withStoreIn withoutFrontIn withBehindIn changedTo countMoved countError
+    countRound waits reads addresses part1 cyclic candidates firstThat granted grants part2 frees carries moves
+    movesOne spills spillsOne sends part3 begun round rounds routerPuts tookOne routerTakes told runs writesRow
+    readsRow setOf wantedBy unread setsOf nothingHeld heldThrough heldRefused stillHeld heldWords asked heldLeft
+    noRouter routerPut routerPutLeft took routerTakeLeft ran runLeft tableLeft rowLeft
 inventing =
     record {
-      put = λ build other κs left kept. other κs (ap (λ (a : Answer). a .discarded) (kept .0));
-      reset = λ build other κs left kept. other κs (ap (λ (o : Outcome Answer). o .answer .discarded) kept);
-      fault = λ build other κs left kept. other κs (ap (λ (o : Outcome Answer). o .answer .discarded) kept);
-      rounds = λ build other κs left kept. other κs (ap (λ (o : Run). o .rounds) kept ∙ router-cases .run-rounds);
-      moved = λ build other κs left kept. other κs (ap (λ (o : Run). o .moved) kept ∙ router-cases .run-moved);
-      errors = λ build other κs left kept. other κs (ap (λ (o : Run). o .errors) kept ∙ router-cases .stray-errors);
+      put = λ build other κs kept. other κs (ap (λ (left : LinkLeft). wordAt (left .out) 0) kept);
+      reset = λ build other κs kept. other κs (ap (λ (left : LinkLeft). wordAt (left .out) 0) kept);
+      fault = λ build other κs kept. other κs (ap (λ (left : LinkLeft). wordAt (left .out) 0) kept);
+      rounds = λ build other κs kept. other κs (ap (λ (left : RouterLeft). wordAt (left .out) 0) kept);
+      moved = λ build other κs kept. other κs (ap (λ (left : RouterLeft). wordAt (left .out) 1) kept);
+      errors = λ build other κs kept. other κs (ap (λ (left : RouterLeft). wordAt (left .out) 2) kept);
     }
+
+idle-later : (build : Build RouterRun) → IdleLater build → BreaksAt RouterRun toOutput3 build
+unfolding
+    tokenOf same freshStore putStore putPlaces dropped foundIn found throughEnd holdsEnd standing storeOf toPort byRow
+    rowHeading addressHeading heading freshTable withRow each any withoutFront withBehind freshRouter withMode
+    withOutput withStore badPorts badStores listed routerWords wantedOf modeOf inputIn outputIn routerOf withModeIn
+    withOutputIn withStoreIn withoutFrontIn withBehindIn changedTo countMoved countError countRound waits reads
+    addresses part1 cyclic candidates firstThat granted grants part2 frees carries moves movesOne spills spillsOne
+    sends part3 begun round rounds routerPuts tookOne routerTakes told runs writesRow readsRow setOf wantedBy unread
+    setsOf nothingHeld heldThrough heldRefused stillHeld heldWords asked heldLeft noRouter routerPut routerPutLeft
+    took routerTakeLeft ran runLeft tableLeft rowLeft
+idle-later build idles κs kept =
+    absurd (omega (
+      arith,
+      sym (ap (λ (left : RouterLeft). wordAt (left .state) 3) kept)
+          ∙ ap (λ (words : List ℕ). wordAt words 3) (idles κs _ _ _ _ 9),
+    ))
 
 pub worthless-builds-shut-out : WorthlessBuildsShutOut
 worthless-builds-shut-out =
@@ -129,33 +200,21 @@ worthless-builds-shut-out =
       inventing = inventing;
     }
 
-abbrev isToken : Report → Bool
-isToken Nothing = false
-isToken (Got t) = true
-isToken ParityError = false
-isToken EscapeError = false
-isToken Disconnect = false
-
-abbrev tokenOf : Report → Token
-tokenOf Nothing = Null
-tokenOf (Got t) = t
-tokenOf ParityError = Null
-tokenOf EscapeError = Null
-tokenOf Disconnect = Null
-
-null-for : (r : Report) (t : Token) → nullFor r ≡ Got t → t ≡ Null
-null-for Nothing t e = absurd (false≢true (ap isToken e))
-null-for (Got s) t e = sym (ap tokenOf e)
-null-for ParityError t e = absurd (false≢true (ap isToken e))
-null-for EscapeError t e = absurd (false≢true (ap isToken e))
-null-for Disconnect t e = absurd (false≢true (ap isToken e))
+null-for : (kind : ℕ) → 1 ≤ nullFor kind → nullFor kind ≤ 4 → nullFor kind ≡ kindOf Null
+null-for kind = by (leb kind 4) refl (eqb kind 0)
+  where
+    by : (token : Bool) → leb kind 4 ≡ token → (none : Bool) → 1 ≤ pick token (pick none 0 (kindOf Null)) kind →
+        pick token (pick none 0 (kindOf Null)) kind ≤ 4 → pick token (pick none 0 (kindOf Null)) kind ≡ kindOf Null
+    by true e true least most = absurd (omega arith)
+    by true e false least most = refl
+    by false e none least most = absurd (omega (arith, leb-false kind 4 e))
 
 pub worthless-builds : WorthlessBuilds
 worthless-builds =
     record {
       refuses-all = λ κs a none. absurd (omega (arith, none));
-      says-null = λ κs a t. null-for (bitAnswer (a .0) (a .1 .0) .report) t;
+      says-null = λ κs a. null-for (wordAt (bitLeft (now (a .0)) (a .1 .0) .out) 0);
       stays = λ κs a here. here;
-      idles-later = λ κs s area table more. refl;
-      invents = λ κs one. omega (arith, one);
+      idles-later = λ κs words area table answer more. refl;
+      invents = λ κs one. absurd (omega (arith, one));
     }

@@ -10,20 +10,20 @@ use Rattle.vocabulary.specs.Refusals.{Test, firstOf, TestedInOrder}
 use Rattle.vocabulary.specs.declared.Token.{Token}
 use Rattle.characters.specs.Refusals.{decoderTests, encoderTests}
 use Rattle.characters.specs.Calls.{bitAnswer, tickAnswer, encodeAnswer}
-use Rattle.characters.specs.declared.decoder.Decoder.{Decoder}
-use Rattle.characters.specs.declared.encoder.Encoder.{Encoder}
+use Rattle.characters.specs.States.{Decoder, Encoder}
 use Rattle.time.specs.declared.Time.{Time}
 use Rattle.link.specs.Ends.{End}
 use Rattle.link.specs.Refusals.{bothTests, receiveTests, putTests, takeTests, offerTests}
 use Rattle.link.specs.Calls.{tickOutcome, faultOutcome, controlOutcome, resetOutcome, sendOutcome, receiveOutcome}
 use Rattle.link.specs.Calls.{putAnswer, takeAnswer, offerAnswer}
-use Rattle.link.specs.declared.Controls.{Controls}
+use Rattle.link.specs.Records.{Controls}
 use Rattle.link.specs.declared.FaultKind.{FaultKind}
-use Rattle.link.specs.declared.Link.{Link}
+use Rattle.link.specs.Records.{Link}
 use Rattle.router_ports.specs.Places.{Machine}
-use Rattle.router_ports.specs.declared.Router.{Router as RouterState}
+use Rattle.router_ports.specs.Records.{Router as RouterState}
 use Rattle.router.specs.Refusals.{putTests as routerPutTests, takeTests as routerTakeTests}
-use Rattle.router.specs.Refusals.{runTests as routerRunTests, rowTests as routerRowTests, heldTests as routerHeldTests}
+use Rattle.router.specs.Refusals.{runTests as routerRunTests, rowTests as routerRowTests}
+use Rattle.router.specs.Refusals.{heldTests as routerHeldTests}
 use Rattle.router.specs.Calls.{puts, takes, runs, readsRow}
 use Rattle.router.specs.Held.{stillHeld}
 

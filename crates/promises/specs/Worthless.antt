@@ -4,58 +4,56 @@
 use mathlib.Core.Path.{_≡_}
 use mathlib.Core.Bool.{true, false}
 use mathlib.Core.List.{List, [], _∷_}
-use Prim.Native.Nat.{ℕ, suc}
+use Prim.Native.Nat.{ℕ, suc, _≤_}
 use contract.Lifetimes.{Lfts}
 use denote.Ref.{RefT, now}
 use borrow.Fn.Kinds.{Dens}
-use lib.ListN.{length, replicate}
+use lib.ListN.{replicate}
+use lib.Dec.{eqb, leb}
+use Rattle.vocabulary.specs.Choice.{pick}
 use Rattle.vocabulary.specs.NChars.{EOP}
-use Rattle.vocabulary.specs.declared.Token.{Token}
 use Rattle.vocabulary.specs.declared.Token.the-variants.{Null, Fct}
+use Rattle.vocabulary.specs.Tokens.{kindOf}
+use Rattle.words.specs.Words.{Left, wordAt}
 use Rattle.characters.specs.Encoder.{freshEncoder}
-use Rattle.characters.specs.Calls.{bitAnswer}
-use Rattle.characters.specs.declared.encoder.Encoded.{Encoded}
-use Rattle.characters.specs.declared.decoder.Waiting.the-variants.{Whole}
-use Rattle.characters.specs.declared.decoder.Phase.the-variants.{Parity}
-use Rattle.characters.specs.declared.decoder.Decoder.the-variants.{Fresh, Heard}
-use Rattle.characters.specs.declared.decoder.Decoded.{Decoded}
-use Rattle.characters.specs.declared.report.Report.{Report}
-use Rattle.characters.specs.declared.report.Report.the-variants.{Nothing, Got, ParityError, EscapeError, Disconnect}
+use Rattle.characters.specs.States.{Whole, Parity, Fresh, Heard}
+use Rattle.characters.specs.DecoderWords.{decoderWords, bitLeft}
+use Rattle.characters.specs.EncoderWords.{encoderWords}
 use Rattle.time.specs.Time.{freshTime}
 use Rattle.link.specs.Ends.{freshLink, withStage, withMarks, withRx, withTx}
-use Rattle.link.specs.Calls.{putAnswer}
+use Rattle.link.specs.LinkWords.{STATE, linkWords, timeWords}
+use Rattle.link.specs.LinkCalls.{LinkLeft, putLeft}
 use Rattle.link.specs.declared.LinkState.the-variants.{ErrorReset, Run as InRun}
-use Rattle.link.specs.declared.FaultKind.the-variants.{DisconnectFault}
-use Rattle.link.specs.declared.Link.{Link}
-use Rattle.link.specs.declared.Answer.{Answer}
-use Rattle.link.specs.declared.Dispatch.{Dispatch}
-use Rattle.link.specs.declared.Receipt.{Receipt}
-use Rattle.link.specs.declared.Taken.{Taken}
+use Rattle.link.specs.Records.{Link}
 use Rattle.router_table.specs.Rows.{freshTable}
 use Rattle.router_ports.specs.Ports.{freshRouter, outputStore, withStore}
-use Rattle.router_ports.specs.Places.{machine}
-use Rattle.router_ports.specs.declared.Router.{Router}
-use Rattle.router.specs.Calls.{Run, runs}
+use Rattle.router_ports.specs.RouterWords.{routerWords}
+use Rattle.router_ports.specs.Records.{Router}
+use Rattle.router.specs.RouterCalls.{RouterLeft, runLeft}
 use Rattle.router.specs.Cases.{smallest, holding}
-use Rattle.router.specs.declared.Answer.{Answer as RouterAnswer}
-use Rattle.router.specs.declared.Taken.{Taken as RouterTaken}
-use Rattle.router.specs.declared.Ran.{Ran}
-use Rattle.router.specs.declared.RowRead.{RowRead}
-use Rattle.promises.specs.Promises.{Promise, Arguments, Build, Number, BreaksAt}
-use Rattle.promises.specs.Promises.{Encode, Bit, DecoderTick}
-use Rattle.promises.specs.Promises.{Tick, Fault, Control, Reset, Send, Receive, Put, Take, Offer}
-use Rattle.promises.specs.Promises.{RouterPut, RouterTake, RouterRun, RouterWrite, RouterRead}
+use Rattle.promises.specs.Promises.{Done, Promise, Arguments, Build, Number, BreaksAt, Encode, Bit, DecoderTick}
+use Rattle.promises.specs.Promises.{Tick, Fault, Control, Reset, Send, Receive, Put, Take, Offer, RouterPut}
+use Rattle.promises.specs.Promises.{RouterTake, RouterRun, RouterWrite, RouterRead, RouterHeld}
 
--- what a slice holds that is lent to a call; where it lies is nothing to the promise
+-- what words or places hold that are lent to a call; where they lie is nothing to the promise
 abbrev pub lent : List ℕ → RefT (List ℕ)
 lent held = record { ptr = (0, 0); name = 0; now = held }
 
--- places for a link end's two stores, a router's area of nine places each, and its table
+-- a fresh end, words for answers, places for a link end's two stores, a router's area of nine places each, and its table
+abbrev pub link : Link → RefT (List ℕ)
+link l = lent (linkWords l)
+
+abbrev pub out : ℕ → RefT (List ℕ)
+out count = lent (replicate count 0)
+
 abbrev pub rx : RefT (List ℕ)
 rx = lent (replicate 9 0)
 
 abbrev pub tx : RefT (List ℕ)
 tx = lent (65 ∷ EOP ∷ 66 ∷ [])
+
+abbrev pub router : Router → RefT (List ℕ)
+router s = lent (routerWords s)
 
 abbrev pub area : RefT (List ℕ)
 area = lent (replicate 198 0)
@@ -63,7 +61,7 @@ area = lent (replicate 198 0)
 abbrev pub table : RefT (List ℕ)
 table = lent freshTable
 
--- ---- "One that refuses all": no answer of it has refusal 0, whatever numbers it takes
+-- ---- "One that refuses all": no answer of it is 0, whatever it is handed
 abbrev pub RefusesAll : (p : Promise) → Number p → Build p → Type 0
 RefusesAll p refusal build = (κs : Lfts (p .lifetimes)) (a : Dens κs (p .parameters)) → refusal κs (build κs a) ≡ 0 → ⊥
 
@@ -84,58 +82,64 @@ inRun =
     (record { stored = false; sent = true; taken = false; put = true; discarding = false })
 
 pub record RefusingAll : Type 0 where
-  pub encode : NoneRefusesAll Encode (λ κs (a : Encoded). a .refusal) (λ κs. (freshEncoder, (Null, tt)))
-  pub bit : NoneRefusesAll Bit (λ κs (a : Decoded). a .refusal) (λ κs. (Fresh, (false, tt)))
-  pub decoder-tick : NoneRefusesAll DecoderTick (λ κs (a : Decoded). a .refusal) (λ κs. (Fresh, tt))
-  pub tick : NoneRefusesAll Tick (λ κs (a : Answer). a .refusal) (λ κs. (freshLink, (rx, (tx, tt))))
-  pub fault : NoneRefusesAll Fault (λ κs (a : Answer). a .refusal) (λ κs. (freshLink, (rx, (tx, (DisconnectFault, tt)))))
-  pub control :
-      NoneRefusesAll Control (λ κs (a : Answer). a .refusal)
-      (λ κs. (freshLink, (rx, (tx, (record { disabled = false; start = true; auto = false }, tt)))))
-  pub reset : NoneRefusesAll Reset (λ κs (a : Answer). a .refusal) (λ κs. (freshLink, (rx, (tx, tt))))
-  pub send : NoneRefusesAll Send (λ κs (a : Dispatch). a .refusal) (λ κs. (freshLink, (rx, (tx, tt))))
+  pub encode :
+      NoneRefusesAll Encode (λ κs d. d .0) (λ κs. (lent (encoderWords freshEncoder), (kindOf Null, (0, (out 2, tt)))))
+  pub bit : NoneRefusesAll Bit (λ κs d. d .0) (λ κs. (lent (decoderWords Fresh), (0, (out 2, tt))))
+  pub decoder-tick : NoneRefusesAll DecoderTick (λ κs d. d .0) (λ κs. (lent (decoderWords Fresh), (out 2, tt)))
+  pub tick : NoneRefusesAll Tick (λ κs d. d .0) (λ κs. (link freshLink, (rx, (tx, (out 1, tt)))))
+  pub fault : NoneRefusesAll Fault (λ κs d. d .0) (λ κs. (link freshLink, (rx, (tx, (7, (out 1, tt))))))
+  pub control : NoneRefusesAll Control (λ κs d. d .0) (λ κs. (link freshLink, (rx, (tx, (0, (1, (0, (out 1, tt))))))))
+  pub reset : NoneRefusesAll Reset (λ κs d. d .0) (λ κs. (link freshLink, (rx, (tx, (out 1, tt)))))
+  pub send : NoneRefusesAll Send (λ κs d. d .0) (λ κs. (link freshLink, (rx, (tx, (out 3, tt)))))
   pub receive :
-      NoneRefusesAll Receive (λ κs (a : Receipt). a .refusal) (λ κs. (freshLink, (rx, (tx, (freshTime, (Null, tt))))))
-  pub put : NoneRefusesAll Put (λ κs (a : Answer). a .refusal) (λ κs. (freshLink, (tx, (65, tt))))
-  pub take : NoneRefusesAll Take (λ κs (a : Taken). a .refusal) (λ κs. (oneReceived, (rx, tt)))
-  pub offer : NoneRefusesAll Offer (λ κs (a : Answer). a .refusal) (λ κs. (inRun, (5, tt)))
-  pub router-put :
-      NoneRefusesAll RouterPut (λ κs (a : RouterAnswer). a .refusal) (λ κs. (freshRouter, (area, (1, (65, tt)))))
-  pub router-take : NoneRefusesAll RouterTake (λ κs (a : RouterTaken). a .refusal) (λ κs. (oneRouted, (area, (3, tt))))
-  pub router-run : NoneRefusesAll RouterRun (λ κs (a : Ran). a .refusal) (λ κs. (freshRouter, (area, (table, (1, tt)))))
-  pub router-write : NoneRefusesAll RouterWrite (λ κs (a : ℕ). a) (λ κs. (freshRouter, (table, (39, (4, tt)))))
-  pub router-read : NoneRefusesAll RouterRead (λ κs (a : RowRead). a .refusal) (λ κs. (freshRouter, (table, (39, tt))))
+      NoneRefusesAll Receive (λ κs d. d .0)
+      (λ κs. (link freshLink, (rx, (tx, (lent (timeWords freshTime), (kindOf Null, (0, (out 2, tt))))))))
+  pub put : NoneRefusesAll Put (λ κs d. d .0) (λ κs. (link freshLink, (tx, (65, (out 1, tt)))))
+  pub take : NoneRefusesAll Take (λ κs d. d .0) (λ κs. (link oneReceived, (rx, (out 2, tt))))
+  pub offer : NoneRefusesAll Offer (λ κs d. d .0) (λ κs. (link inRun, (5, (out 1, tt))))
+  pub router-put : NoneRefusesAll RouterPut (λ κs d. d .0) (λ κs. (router freshRouter, (area, (1, (65, tt)))))
+  pub router-take : NoneRefusesAll RouterTake (λ κs d. d .0) (λ κs. (router oneRouted, (area, (3, (out 1, tt)))))
+  pub router-run : NoneRefusesAll RouterRun (λ κs d. d .0) (λ κs. (router freshRouter, (area, (table, (1, (out 3, tt))))))
+  pub router-write : NoneRefusesAll RouterWrite (λ κs d. d .0) (λ κs. (router freshRouter, (table, (39, (4, tt)))))
+  pub router-read : NoneRefusesAll RouterRead (λ κs d. d .0) (λ κs. (router freshRouter, (table, (39, (out 1, tt)))))
+  pub router-held : NoneRefusesAll RouterHeld (λ κs d. d .0) (λ κs. (router freshRouter, (1, (out 11, tt))))
 
--- ---- "A decoder that always says NULL": whatever token it reports, it is NULL
+-- ---- "A decoder that always says NULL": whatever token it reports, 1 to 4 by number, it is NULL
 abbrev pub SaysOnlyNull : Build Bit → Type 0
-SaysOnlyNull build = (κs : Lfts 0) (a : Dens κs (Bit .parameters)) (t : Token) → (build κs a) .report ≡ Got t → t ≡ Null
+SaysOnlyNull build =
+    (κs : Lfts 2) (a : Dens κs (Bit .parameters)) →
+    let kind = wordAt (now (build κs a .1 .1 .1 .0)) 0 in 1 ≤ kind → kind ≤ 4 → kind ≡ kindOf Null
 
 -- bit 14 of the listing's example: an FCT waits, the parity bit was 1, and this is the flag 0
 abbrev pub bit14 : Arguments Bit
-bit14 κs = (Heard (Parity (Whole Fct) true) 0, (false, tt))
+bit14 κs = (lent (decoderWords (Heard (Parity (Whole Fct) true) 0)), (0, (out 2, tt)))
 
 -- ---- "An end that does nothing and stays in ErrorReset": no tick moves it from there
 abbrev pub StaysInErrorReset : Build Tick → Type 0
 StaysInErrorReset build =
-    (κs : Lfts 2) (a : Dens κs (Tick .parameters)) →
-    a .0 .stage .state ≡ ErrorReset → (build κs a) .link .stage .state ≡ ErrorReset
+    (κs : Lfts 4) (a : Dens κs (Tick .parameters)) →
+    wordAt (now (a .0)) STATE ≡ 0 → wordAt (now (build κs a .1 .0)) STATE ≡ 0
 
 -- the tick that finds the timer at 63
 abbrev pub tick64 : Arguments Tick
 tick64 κs = (
-  withStage freshLink (record { state = ErrorReset; timer = 63; gotnull = false; nullsent = false }),
-  (rx, (tx, tt)),
+  link (withStage freshLink (record { state = ErrorReset; timer = 63; gotnull = false; nullsent = false })),
+  (rx, (tx, (out 1, tt))),
 )
 
--- ---- "A router right in round one and idle later": one round or more leave the state that one leaves
+-- ---- "A router right in round one and idle later": one round or more leave the words that one leaves
 abbrev pub IdleLater : Build RouterRun → Type 0
 IdleLater build =
-    (κs : Lfts 2) (s : Router) (area table : RefT (List ℕ)) (more : ℕ) →
-    (build κs (s, (area, (table, (suc more, tt))))) .router ≡ runs (machine s (now area)) (now table) 1 .now .router
+    (κs : Lfts 4) (words area table answer : RefT (List ℕ)) (more : ℕ) →
+    now (build κs (words, (area, (table, (suc more, (answer, tt))))) .1 .0)
+    ≡ runLeft (now words) (now area) (now table) 1 .state
 
 -- a run of 10, as of the paper's two examples: input 1 holds 3, 65, EOP, and input 1 holds 11, EOP
 abbrev pub runOf10 : List ℕ → Arguments RouterRun
-runOf10 held κs = (holding smallest 1 held .router, (lent (holding smallest 1 held .area), (table, (10, tt))))
+runOf10 held κs = (
+  router (holding smallest 1 held .router),
+  (lent (holding smallest 1 held .area), (table, (10, (out 3, tt)))),
+)
 
 abbrev pub toOutput3 : Arguments RouterRun
 toOutput3 = runOf10 (3 ∷ 65 ∷ EOP ∷ [])
@@ -157,16 +161,21 @@ waitingToSend count l = withTx l (record { front = 0; len = count })
 abbrev pub discarding : Link
 discarding = withMarks freshLink (record { stored = false; sent = false; taken = false; put = true; discarding = true })
 
+abbrev pub putWhileDiscarding : Arguments Put
+putWhileDiscarding κs = (link discarding, (tx, (65, (out 1, tt))))
+
 pub record Inventing : Type 0 where
   -- discarded: an N-Char put to an end that discards; all that a reset finds; what a fault finds through the first end
-  pub put : NoneInvents Put (λ κs (a : Answer). a .discarded) (λ κs. (discarding, (tx, (65, tt)))) 1
-  pub reset : NoneInvents Reset (λ κs (a : Answer). a .discarded) (λ κs. (waitingToSend 3 freshLink, (rx, (tx, tt)))) 3
+  pub put : NoneInvents Put (λ κs d. wordAt (now (d .1 .1 .1 .1 .0)) 0) putWhileDiscarding 1
+  pub reset :
+      NoneInvents Reset (λ κs d. wordAt (now (d .1 .1 .1 .1 .0)) 0)
+      (λ κs. (link (waitingToSend 3 freshLink), (rx, (tx, (out 1, tt))))) 3
   pub fault :
-      NoneInvents Fault (λ κs (a : Answer). a .discarded)
-      (λ κs. (waitingToSend 3 inRun, (rx, (tx, (DisconnectFault, tt))))) 2
-  pub rounds : NoneInvents RouterRun (λ κs (a : Ran). a .rounds) toOutput3 3
-  pub moved : NoneInvents RouterRun (λ κs (a : Ran). a .moved) toOutput3 2
-  pub errors : NoneInvents RouterRun (λ κs (a : Ran). a .errors) toNowhere 1
+      NoneInvents Fault (λ κs d. wordAt (now (d .1 .1 .1 .1 .1 .0)) 0)
+      (λ κs. (link (waitingToSend 3 inRun), (rx, (tx, (7, (out 1, tt)))))) 2
+  pub rounds : NoneInvents RouterRun (λ κs d. wordAt (now (d .1 .1 .1 .1 .1 .0)) 0) toOutput3 3
+  pub moved : NoneInvents RouterRun (λ κs d. wordAt (now (d .1 .1 .1 .1 .1 .0)) 1) toOutput3 2
+  pub errors : NoneInvents RouterRun (λ κs d. wordAt (now (d .1 .1 .1 .1 .1 .0)) 2) toNowhere 1
 
 -- every build of the five kinds breaks a promise
 pub record WorthlessBuildsShutOut : Type 0 where
@@ -179,42 +188,42 @@ pub record WorthlessBuildsShutOut : Type 0 where
 -- ---- a build of each kind, so that none of the five is empty
 
 abbrev pub refuser : Build Bit
-refuser κs a = record { refusal = 1; decoder = a .0; report = Nothing }
+refuser κs a = (1, (a .0, (a .1 .0, (a .1 .1 .0, tt))))
 
-abbrev pub nullFor : Report → Report
-nullFor Nothing = Nothing
-nullFor (Got t) = Got Null
-nullFor ParityError = ParityError
-nullFor EscapeError = EscapeError
-nullFor Disconnect = Disconnect
+-- the number of NULL for that of any token
+abbrev pub nullFor : ℕ → ℕ
+nullFor kind = pick (leb kind 4) (pick (eqb kind 0) 0 (kindOf Null)) kind
 
 abbrev pub nullSayer : Build Bit
-nullSayer κs a =
-    record {
-      refusal = bitAnswer (a .0) (a .1 .0) .refusal;
-      decoder = bitAnswer (a .0) (a .1 .0) .decoder;
-      report = nullFor (bitAnswer (a .0) (a .1 .0) .report);
-    }
+nullSayer κs a = told (bitLeft (now (a .0)) (a .1 .0))
+  where
+    told : Left → Done Bit κs
+    told left = (
+      left .refusal,
+      (lent (left .state), (a .1 .0, (lent (nullFor (wordAt (left .out) 0) ∷ 0 ∷ []), tt))),
+    )
 
 abbrev pub sleeper : Build Tick
-sleeper κs a = record { refusal = 0; link = a .0; discarded = 0 }
+sleeper κs a = (0, (a .0, (a .1 .0, (a .1 .1 .0, (lent (0 ∷ []), tt)))))
 
 abbrev pub oneRounder : Build RouterRun
-oneRounder κs a = told (runs (machine (a .0) (now (a .1 .0))) (now (a .1 .1 .0)) 1)
+oneRounder κs a = told (runLeft (now (a .0)) (now (a .1 .0)) (now (a .1 .1 .0)) 1)
   where
-    told : Run → Ran
-    told o =
-        record { refusal = o .refusal; router = o .now .router; rounds = o .rounds; moved = o .moved; errors = o .errors }
+    told : RouterLeft → Done RouterRun κs
+    told left = (
+      left .refusal,
+      (lent (left .state), (lent (left .area), (a .1 .1 .0, (a .1 .1 .1 .0, (lent (left .out), tt))))),
+    )
 
 abbrev pub undercounter : Build Put
-undercounter κs a = told (putAnswer (length (now (a .1 .0))) (a .0) (a .1 .1 .0))
+undercounter κs a = told (putLeft (now (a .0)) (now (a .1 .0)) (a .1 .1 .0))
   where
-    told : Answer → Answer
-    told o = record { refusal = o .refusal; link = o .link; discarded = 0 }
+    told : LinkLeft → Done Put κs
+    told left = (left .refusal, (lent (left .state), (lent (left .places), (a .1 .1 .0, (lent (0 ∷ []), tt)))))
 
 pub record WorthlessBuilds : Type 0 where
-  pub refuses-all : RefusesAll Bit (λ κs (a : Decoded). a .refusal) refuser
+  pub refuses-all : RefusesAll Bit (λ κs d. d .0) refuser
   pub says-null : SaysOnlyNull nullSayer
   pub stays : StaysInErrorReset sleeper
   pub idles-later : IdleLater oneRounder
-  pub invents : Invents Put (λ κs (a : Answer). a .discarded) (λ κs. (discarding, (tx, (65, tt)))) 1 undercounter
+  pub invents : Invents Put (λ κs d. wordAt (now (d .1 .1 .1 .1 .0)) 0) putWhileDiscarding 1 undercounter

@@ -13,10 +13,10 @@ use Rattle.router_ports.specs.declared.Mode.{Mode}
 use Rattle.router_ports.specs.declared.Mode.the-variants.{Idle, Waiting, Routed, Spilling}
 use Rattle.router_ports.specs.declared.Owner.{Owner}
 use Rattle.router_ports.specs.declared.Owner.the-variants.{Free, By}
-use Rattle.router_ports.specs.declared.Router.{Router}
+use Rattle.router_ports.specs.Records.{Router}
 use Rattle.router_rounds.specs.Grants.{waitsFor}
 use Rattle.router.specs.Refusals.{heldRefusal}
-use Rattle.router.specs.declared.StillHeld.{StillHeld}
+use Rattle.router.specs.Records.{StillHeld}
 use Rattle.router.specs.Held.{awaits, unmovedAt, setOf, wantedBy, unread}
 use Rattle.router.specs.Held.{nothingAtInput, nothingAtOutput, nothingHeld}
 use Rattle.router.specs.Held.{heldThrough, heldRefused, stillHeld, SetsSay, NothingHeld, NothingUnread, HeldSays}

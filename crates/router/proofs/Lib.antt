@@ -3,4 +3,5 @@ pub mod HeldLaws
 pub mod HeldProof
 pub mod CaseProofs
 pub mod ReachedProof
-pub mod InWordsLaws
+pub mod InPlaceLaws
+pub mod StayLaws

@@ -7,25 +7,19 @@ use lib.Dec.{eqb}
 use Rattle.vocabulary.specs.Choice.{pick}
 use Rattle.router_table.specs.Rows.{rowAt, withRow}
 use Rattle.router_ports.specs.Ports.{inputStore, outputStore}
-use Rattle.router_ports.specs.Places.{Machine, machine, frontAt, withoutFront, withBehind}
-use Rattle.router_ports.specs.declared.Router.{Router}
+use Rattle.router_ports.specs.Places.{Machine, frontAt, withoutFront, withBehind}
+use Rattle.router_ports.specs.Records.{Router}
 use Rattle.router_rounds.specs.Acts.{Tally}
 use Rattle.router_rounds.specs.Rounds.{begun, rounds}
 use Rattle.router_rounds.specs.Exact.{exact}
 use Rattle.router.specs.Refusals.{putRefusal, takeRefusal, runRefusal, rowRefusal}
-use Rattle.router.specs.declared.Answer.{Answer}
-use Rattle.router.specs.declared.Taken.{Taken}
-use Rattle.router.specs.declared.Ran.{Ran}
-use Rattle.router.specs.declared.RowRead.{RowRead}
+use Rattle.router.specs.Records.{RowRead}
 
 -- an N-Char put to a port's input store
 
 pub record Put : Type 0 where
   pub refusal : ℕ
   pub now : Machine
-
-abbrev pub putOf : Answer → List ℕ → Put
-putOf a area = record { refusal = a .refusal; now = machine (a .router) area }
 
 unfoldable pub puts : Machine → ℕ → ℕ → Put
 puts x port n =
@@ -39,9 +33,6 @@ pub record Took : Type 0 where
   pub refusal : ℕ
   pub now : Machine
   pub taken : ℕ
-
-abbrev pub tookOf : Taken → List ℕ → Took
-tookOf a area = record { refusal = a .refusal; now = machine (a .router) area; taken = a .taken }
 
 unfoldable pub tookOne : Machine → ℕ → Took
 tookOne x port =
@@ -61,16 +52,6 @@ pub record Run : Type 0 where
   pub rounds : ℕ
   pub moved : ℕ
   pub errors : ℕ
-
-abbrev pub ranOf : Ran → List ℕ → Run
-ranOf a area =
-    record {
-      refusal = a .refusal;
-      now = machine (a .router) area;
-      rounds = a .rounds;
-      moved = a .moved;
-      errors = a .errors;
-    }
 
 unfoldable pub told : Tally Machine → Run
 told t = record { refusal = 0; now = t .now; rounds = t .rounds; moved = t .moved; errors = t .errors }

@@ -12,11 +12,11 @@ use Rattle.router_ports.specs.declared.Mode.{Mode}
 use Rattle.router_ports.specs.declared.Mode.the-variants.{Idle, Waiting, Routed, Spilling}
 use Rattle.router_ports.specs.declared.Owner.{Owner}
 use Rattle.router_ports.specs.declared.Owner.the-variants.{Free, By}
-use Rattle.router_ports.specs.declared.Router.{Router}
+use Rattle.router_ports.specs.Records.{Router}
 use Rattle.router_rounds.specs.Grants.{waitsFor}
 use Rattle.router.specs.Refusals.{heldRefusal}
 use Rattle.router.specs.declared.held.Sets.{Sets}
-use Rattle.router.specs.declared.StillHeld.{StillHeld}
+use Rattle.router.specs.Records.{StillHeld}
 
 -- "the waiting inputs that want it", at either priority
 abbrev pub awaits : ℕ → Mode → Bool

@@ -12,7 +12,7 @@ use Rattle.router_table.specs.Rows.{outsideRows}
 use Rattle.router_ports.specs.Ports.{inputStore, outputStore}
 use Rattle.router_ports.specs.Places.{Machine, badArea, emptyAt, fullAt}
 use Rattle.router_ports.specs.Refusals.{badPorts, badStores}
-use Rattle.router_ports.specs.declared.Router.{Router}
+use Rattle.router_ports.specs.Records.{Router}
 
 -- "Tests that need a store's size come after 2."
 abbrev pub lent : Machine → List Test → List Test

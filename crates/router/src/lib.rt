@@ -1,248 +1,208 @@
-// The router (01, The router): put, take, run, the rows of its table, and what is still held through a port. The state is a
-// value, the area and the table are lent.
+// The router (01, The router): put, take, run, the rows of its table, and what is still held through a port, on the
+// words that keep it. A refused call leaves words, area and table as they were, and answers zeros in `out`.
 ghost use mathlib.Core.Path.{_≡_};
-ghost use Prim.Native.Nat.{_<_};
+ghost use mathlib.Core.List.{[], _∷_};
 ghost use Rattle.store.specs.Ring.{empty};
 ghost use Rattle.router_ports.specs.Ports.{freshRouter, storeAt, outputStore};
-ghost use Rattle.router_ports.specs.Places.{machine};
-ghost use Rattle.router.specs.Refusals.{lentRefusal, putRefusal, takeRefusal, runRefusal, rowRefusal, heldRefusal};
-ghost use Rattle.router.specs.Calls.{putOf, puts, tookOf, tookOne, takes, ranOf, runs, writesRow, readsRow};
-ghost use Rattle.router.specs.Held.{heldRefused, stillHeld};
-use router_ports::Mode;
-use router_ports::Owner;
-use router_ports::Router;
+ghost use Rattle.vocabulary.specs.Choice.{pick};
+ghost use Rattle.router_ports.specs.Places.{machine, badArea};
+ghost use Rattle.router_ports.specs.Refusals.{badStores};
+ghost use Rattle.router_ports.specs.RouterWords.{routerWords, routerOf};
+ghost use Rattle.router.specs.Refusals.{lentRefusal, putRefusal, takeRefusal, runRefusal, heldRefusal};
+ghost use Rattle.router.specs.RouterCalls.{putLeft, takeLeft, runLeft, stateFirst, rowRefused, tableLeft, rowLeft};
+ghost use Rattle.router.specs.HeldCalls.{heldLeft};
+use router_ports::LAST_PORT;
+use router_ports::PORTS;
+use router_ports::STORES;
+use router_ports::Words;
+use router_table::Table;
+use vocabulary::CHAR;
+use vocabulary::EMPTY;
+use vocabulary::FULL;
+use vocabulary::PORT;
+use vocabulary::ROUNDS;
+use vocabulary::ROW;
+use vocabulary::STATE;
+use vocabulary::STORE;
 
-mod held;
+pub mod held;
 
-pub struct Answer {
-    pub refusal: u8,
-    pub router: Router,
-}
-
-pub struct Taken {
-    pub refusal: u8,
-    pub router: Router,
-    pub taken: u16,
-}
-
-// What a run did: rounds with the last, N-Chars moved from an input to an output, address errors met.
-pub struct Ran {
-    pub refusal: u8,
-    pub router: Router,
-    pub rounds: u32,
-    pub moved: u32,
-    pub errors: u32,
-}
-
-pub struct RowRead {
-    pub refusal: u8,
-    pub value: u32,
-}
-
-// What is held through a port: what its input does and how many N-Chars wait there, who holds its output and how many wait
-// there, and which inputs wait for it, bit i for input i. `nothing` says that none of these is anything; `unread` has the
-// inputs whose waiting N-Chars no round has moved yet, to whatever port they are addressed.
-pub struct StillHeld {
-    pub refusal: u8,
-    pub mode: Mode,
-    pub unmoved: usize,
-    pub owner: Owner,
-    pub untaken: usize,
-    pub wanted: u16,
-    pub unread: u16,
-    pub nothing: bool,
-}
+// 6 ROUNDS: a run takes no more.
+const MOST_ROUNDS: u16 = 10000;
 
 // Idle inputs, free outputs, empty stores.
-pub fn fresh() -> Router
-    ensures { λ r. ⌜ r ≡ freshRouter ⌝ }
+pub fn fresh(words: &mut Words)
+    ensures { λ r. ⌜ now (words .exit) ≡ routerWords freshRouter ⌝ }
 {
-    router_ports::fresh()
+    router_ports::fresh(words);
 }
 
-// The three tests of what put, take and run are lent, then the later ones.
-fn lent_refusal(s: Router, area: &[u16], later: u8) -> u8
-    ensures { λ r. ⌜ r ≡ lentRefusal (machine s (now (area .entry))) later ⌝ }
+// The two tests that need the size of a store, then the later ones.
+fn sized_refusal(words: &Words, area: &[u16], later: u8) -> u8
+    ensures { λ r. ⌜ r ≡ pick (badArea (now (area .entry))) 2 (pick (badStores (routerOf (now (words .entry))) (now (area .entry))) 1 later) ⌝ }
 {
-    let sized = vocabulary::refuse(router_ports::bad_stores(s, area), vocabulary::STATE, later);
-    let stored = vocabulary::refuse(router_ports::bad_area(area), vocabulary::STORE, sized);
-    vocabulary::refuse(router_ports::bad_ports(s), vocabulary::STATE, stored)
-}
-
-fn put_refusal(s: Router, area: &[u16], port: usize, n: u16) -> u8
-    ensures { λ r. ⌜ r ≡ putRefusal (machine s (now (area .entry))) port n ⌝ }
-{
-    let full = vocabulary::refuse(router_ports::full_at(s, area, port), vocabulary::FULL, 0);
-    let char = vocabulary::refuse(vocabulary::above_eep(n), vocabulary::CHAR, full);
-    let number = vocabulary::refuse(10 < port, vocabulary::PORT, char);
-    lent_refusal(s, area, number)
-}
-
-// One N-Char to a port's input store: `put(s, &mut area, 1, 65)`.
-pub fn put(s: Router, area: &mut [u16], port: usize, n: u16) -> Answer
-    ensures { λ r. ⌜ putOf r (now (area .exit)) ≡ puts (machine s (now (area .entry))) port n ⌝ }
-{
-    let number = put_refusal(s, area, port, n);
-    if number == 0 {
-        let router = router_ports::with_behind(s, area, port, n);
-        Answer { refusal: 0, router }
+    if router_ports::bad_area(area) {
+        STORE
     } else {
-        Answer {
-            refusal: number,
-            router: s,
-        }
+        let size = words::narrow(area.len() / STORES);
+        vocabulary::refuse(router_ports::bad_stores(words, size), STATE, later)
     }
 }
 
-fn nothing_out(s: Router, port: usize) -> bool
-    ensures { λ r. ⌜ r ≡ empty (storeAt s (outputStore port)) ⌝ }
+// The tests of what put, take and run are lent, then the later ones.
+fn lent_refusal(words: &Words, area: &[u16], later: u8) -> u8
+    ensures { λ r. ⌜ r ≡ stateFirst (now (words .entry)) (lentRefusal (machine (routerOf (now (words .entry))) (now (area .entry))) later) ⌝ }
 {
-    if 10 < port {
-        true
-    } else {
-        router_ports::empty_at(s, 11 + port)
-    }
+    let sized = sized_refusal(words, area, later);
+    vocabulary::refuse(router_ports::bad_state(words), STATE, sized)
 }
 
-fn take_refusal(s: Router, area: &[u16], port: usize) -> u8
-    ensures { λ r. ⌜ r ≡ takeRefusal (machine s (now (area .entry))) port ⌝ }
+fn put_refusal(words: &Words, area: &[u16], port: usize, n: u16) -> u8
+    ensures { λ r. ⌜ r ≡ stateFirst (now (words .entry)) (putRefusal (machine (routerOf (now (words .entry))) (now (area .entry))) port n) ⌝ }
 {
-    let none = vocabulary::refuse(nothing_out(s, port), vocabulary::EMPTY, 0);
-    let number = vocabulary::refuse(10 < port, vocabulary::PORT, none);
-    lent_refusal(s, area, number)
+    let full = vocabulary::refuse(router_ports::full_at(words, area, port), FULL, 0);
+    let char = vocabulary::refuse(vocabulary::above_eep(n), CHAR, full);
+    let number = vocabulary::refuse(LAST_PORT < port, PORT, char);
+    lent_refusal(words, area, number)
 }
 
-fn take_one(s: Router, area: &[u16], port: usize) -> Taken
-    requires { ⌜ port < 11 ⌝ }
-    ensures { λ r. ⌜ tookOf r (now (area .entry)) ≡ tookOne (machine s (now (area .entry))) port ⌝ }
+// One N-Char to a port's input store: `put(&mut words, &mut area, 1, 65)`.
+pub fn put(words: &mut Words, area: &mut [u16], port: u32, nchar: u32) -> u32
+    ensures { λ r. ⌜ record { refusal = r; state = now (words .exit); area = now (area .exit); out = [] } ≡ putLeft (now (words .entry)) (now (area .entry)) port nchar ⌝ }
 {
-    let taken = router_ports::front_at(s, area, 11 + port);
-    let router = router_ports::without_front(s, area, 11 + port);
-    Taken {
-        refusal: 0,
-        router,
-        taken,
-    }
-}
-
-// The front N-Char of a port's output store: `take(s, &area, 3)`.
-pub fn take(s: Router, area: &[u16], port: usize) -> Taken
-    ensures { λ r. ⌜ tookOf r (now (area .entry)) ≡ takes (machine s (now (area .entry))) port ⌝ }
-{
-    let number = take_refusal(s, area, port);
+    let p = words::wide(port);
+    let n = words::fitted(nchar);
+    let number = put_refusal(words, area, p, n);
     if number == 0 {
-        take_one(s, area, port)
-    } else {
-        Taken {
-            refusal: number,
-            router: s,
-            taken: 0,
-        }
-    }
-}
-
-fn run_refusal(s: Router, area: &[u16], limit: u16) -> u8
-    ensures { λ r. ⌜ r ≡ runRefusal (machine s (now (area .entry))) limit ⌝ }
-{
-    let number = vocabulary::refuse(10000 < limit, vocabulary::ROUNDS, 0);
-    lent_refusal(s, area, number)
-}
-
-// Up to `limit` rounds, through the first that changes nothing: `run(s, &mut area, &table, 10)`.
-pub fn run(s: Router, area: &mut [u16], table: &[u32; 256], limit: u16) -> Ran
-    ensures { λ r. ⌜ ranOf r (now (area .exit)) ≡ runs (machine s (now (area .entry))) (now (table .entry)) limit ⌝ }
-{
-    let number = run_refusal(s, area, limit);
-    if number == 0 {
-        let mut state = port_words::saved(s);
-        let c = router_rounds::run_in_place(&mut state, area, table, limit);
-        let router = port_words::loaded(&state);
-        let rounds = c.rounds;
-        let moved = c.moved;
-        let errors = c.errors;
-        Ran {
-            refusal: 0,
-            router,
-            rounds,
-            moved,
-            errors,
-        }
-    } else {
-        Ran {
-            refusal: number,
-            router: s,
-            rounds: 0,
-            moved: 0,
-            errors: 0,
-        }
-    }
-}
-
-fn row_refusal(s: Router, row: usize) -> u8
-    ensures { λ r. ⌜ r ≡ rowRefusal s row ⌝ }
-{
-    let number = vocabulary::refuse(router_table::outside_rows(row), vocabulary::ROW, 0);
-    vocabulary::refuse(router_ports::bad_ports(s), vocabulary::STATE, number)
-}
-
-// A row written: `write_row(s, &mut table, 39, 4)` has address 39 request port 2.
-pub fn write_row(s: Router, table: &mut [u32; 256], row: usize, value: u32) -> u8
-    ensures { λ r. ⌜ (r ≡ rowRefusal s row) × (now (table .exit) ≡ writesRow s (now (table .entry)) row value) ⌝ }
-{
-    let number = row_refusal(s, row);
-    if number == 0 {
-        router_table::write(table, row, value);
+        router_ports::append(words, area, p, n);
         0
     } else {
-        number
+        number as u32
     }
 }
 
-pub fn read_row(s: Router, table: &[u32; 256], row: usize) -> RowRead
-    ensures { λ r. ⌜ r ≡ readsRow s (now (table .entry)) row ⌝ }
+fn nothing_out(words: &Words, port: usize) -> bool
+    ensures { λ r. ⌜ r ≡ empty (storeAt (routerOf (now (words .entry))) (outputStore port)) ⌝ }
 {
-    let number = row_refusal(s, row);
-    if number == 0 {
-        let value = router_table::read(table, row);
-        RowRead { refusal: 0, value }
+    if port < PORTS {
+        router_ports::empty_at(words, PORTS + port)
     } else {
-        RowRead {
-            refusal: number,
-            value: 0,
-        }
+        true
     }
 }
 
-fn held_refusal(s: Router, port: usize) -> u8
-    ensures { λ r. ⌜ r ≡ heldRefusal s port ⌝ }
+fn take_refusal(words: &Words, area: &[u16], port: usize) -> u8
+    ensures { λ r. ⌜ r ≡ stateFirst (now (words .entry)) (takeRefusal (machine (routerOf (now (words .entry))) (now (area .entry))) port) ⌝ }
 {
-    let number = vocabulary::refuse(10 < port, vocabulary::PORT, 0);
-    vocabulary::refuse(router_ports::bad_ports(s), vocabulary::STATE, number)
+    let none = vocabulary::refuse(nothing_out(words, port), EMPTY, 0);
+    let number = vocabulary::refuse(LAST_PORT < port, PORT, none);
+    lent_refusal(words, area, number)
 }
 
-fn held_refused(number: u8) -> StillHeld
-    ensures { λ r. ⌜ r ≡ heldRefused number ⌝ }
+// The front N-Char of a port's output store: `take(&mut words, &area, 3, &mut out)`.
+pub fn take(words: &mut Words, area: &[u16], port: u32, out: &mut [u32; 1]) -> u32
+    ensures { λ r. ⌜ record { refusal = r; state = now (words .exit); area = now (area .entry); out = now (out .exit) } ≡ takeLeft (now (words .entry)) (now (area .entry)) port ⌝ }
 {
-    StillHeld {
-        refusal: number,
-        mode: Mode::Idle,
-        unmoved: 0,
-        owner: Owner::Free,
-        untaken: 0,
-        wanted: 0,
-        unread: 0,
-        nothing: false,
-    }
-}
-
-// Who still holds something through a port, as a console asks at logout: `still_held(s, 1)`.
-pub fn still_held(s: Router, port: usize) -> StillHeld
-    ensures { λ r. ⌜ r ≡ stillHeld s port ⌝ }
-{
-    let number = held_refusal(s, port);
+    let p = words::wide(port);
+    let number = take_refusal(words, area, p);
     if number == 0 {
-        held::through(s, port)
+        let taken = router_ports::front_at(words, area, PORTS + p) as u32;
+        router_ports::drop_front(words, area, PORTS + p);
+        *out = [taken];
+        0
     } else {
-        held_refused(number)
+        *out = [0];
+        number as u32
+    }
+}
+
+fn run_refusal(words: &Words, area: &[u16], limit: u16) -> u8
+    ensures { λ r. ⌜ r ≡ stateFirst (now (words .entry)) (runRefusal (machine (routerOf (now (words .entry))) (now (area .entry))) limit) ⌝ }
+{
+    let number = vocabulary::refuse(MOST_ROUNDS < limit, ROUNDS, 0);
+    lent_refusal(words, area, number)
+}
+
+// Up to `limit` rounds, through the first that changes nothing: `run(&mut words, &mut area, &table, 10, &mut out)`.
+// `out` gets how many were run, the N-Chars moved and the address errors met.
+pub fn run(
+    words: &mut Words,
+    area: &mut [u16],
+    table: &Table,
+    limit: u32,
+    out: &mut [u32; 3],
+) -> u32
+    ensures { λ r. ⌜ record { refusal = r; state = now (words .exit); area = now (area .exit); out = now (out .exit) } ≡ runLeft (now (words .entry)) (now (area .entry)) (now (table .entry)) limit ⌝ }
+{
+    let most = words::fitted(limit);
+    let number = run_refusal(words, area, most);
+    if number == 0 {
+        let c = router_rounds::run_in_place(words, area, table, most);
+        *out = [c.rounds as u32, c.moved as u32, c.errors as u32];
+        0
+    } else {
+        *out = [0, 0, 0];
+        number as u32
+    }
+}
+
+fn row_refusal(words: &Words, row: usize) -> u8
+    ensures { λ r. ⌜ r ≡ rowRefused (now (words .entry)) row ⌝ }
+{
+    let number = vocabulary::refuse(router_table::outside_rows(row), ROW, 0);
+    vocabulary::refuse(router_ports::bad_state(words), STATE, number)
+}
+
+// A row written: `write_row(&words, &mut table, 39, 4)` has address 39 request port 2.
+pub fn write_row(words: &Words, table: &mut Table, row: u32, value: u32) -> u32
+    ensures { λ r. ⌜ (r ≡ rowRefused (now (words .entry)) row) × (now (table .exit) ≡ tableLeft (now (words .entry)) (now (table .entry)) row value) ⌝ }
+{
+    let k = words::wide(row);
+    let number = row_refusal(words, k);
+    if number == 0 {
+        router_table::write(table, k, value);
+        0
+    } else {
+        number as u32
+    }
+}
+
+// A row's value, in `out`: `read_row(&words, &table, 39, &mut out)`.
+pub fn read_row(words: &Words, table: &Table, row: u32, out: &mut [u32; 1]) -> u32
+    ensures { λ r. ⌜ (r ≡ rowLeft (now (words .entry)) (now (table .entry)) row .refusal) × (now (out .exit) ≡ rowLeft (now (words .entry)) (now (table .entry)) row .value ∷ []) ⌝ }
+{
+    let k = words::wide(row);
+    let number = row_refusal(words, k);
+    if number == 0 {
+        *out = [router_table::read(table, k)];
+        0
+    } else {
+        *out = [0];
+        number as u32
+    }
+}
+
+fn held_refusal(words: &Words, port: usize) -> u8
+    ensures { λ r. ⌜ r ≡ stateFirst (now (words .entry)) (heldRefusal (routerOf (now (words .entry))) port) ⌝ }
+{
+    let number = vocabulary::refuse(LAST_PORT < port, PORT, 0);
+    vocabulary::refuse(router_ports::bad_state(words), STATE, number)
+}
+
+// Who still holds something through a port, as a console asks at logout: `still_held(&words, 1, &mut out)`. `out` gets
+// what its input does (0 idle, 1 waiting, 2 routed, 3 spilling), the ports that it waits for and at which priority, its
+// output, how many N-Chars wait there; whether its output is held, by which input, how many wait there; which inputs
+// wait for it, which inputs have N-Chars that no round has moved; and whether nothing is held through it.
+pub fn still_held(words: &Words, port: u32, out: &mut [u32; held::WORDS]) -> u32
+    ensures { λ r. ⌜ record { refusal = r; out = now (out .exit) } ≡ heldLeft (now (words .entry)) port ⌝ }
+{
+    let p = words::wide(port);
+    let number = held_refusal(words, p);
+    if number == 0 {
+        *out = held::through(words, p);
+        0
+    } else {
+        *out = [0; held::WORDS];
+        number as u32
     }
 }

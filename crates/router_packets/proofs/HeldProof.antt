@@ -15,7 +15,7 @@ use Rattle.store.proofs.RingLaws.{empty-waits}
 use Rattle.router_ports.specs.Ports.{storeAt, inputStore, outputStore}
 use Rattle.router_ports.specs.Places.{Machine, placesAt}
 use Rattle.router_ports.specs.Refusals.{badPorts}
-use Rattle.router_ports.specs.declared.Router.{Router}
+use Rattle.router_ports.specs.Records.{Router}
 use Rattle.router_ports.specs.declared.Mode.the-variants.{Routed}
 use Rattle.router_rounds.specs.Model.{Model}
 use Rattle.router.specs.Refusals.{noPort, heldRefusal}

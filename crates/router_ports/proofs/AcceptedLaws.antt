@@ -1,11 +1,11 @@
 -- A state that is not refused as STATE is sound: its ports agree, and its stores fit their places.
 -- Assumes nothing.
 use mathlib.Core.Path.{_≡_, refl, ap}
-use mathlib.Core.Bool.{Bool, true, false, false≢true, not, _||_}
+use mathlib.Core.Bool.{true, false, false≢true, not}
 use mathlib.Core.List.{List}
 use Prim.Native.Nat.{ℕ, _<_}
 use native.Mathlib.Omega.{arith}
-use lib.Dec.{eqb, ltb}
+use lib.Dec.{ltb}
 use lib.ListN.{length}
 use borrow.Author.Tests.{ltb-false, eqb-true, not-false}
 use Rattle.store.specs.Ring.{badStore}
@@ -17,7 +17,7 @@ use Rattle.router_ports.specs.declared.Mode.{Mode}
 use Rattle.router_ports.specs.declared.Mode.the-variants.{Idle, Waiting, Routed, Spilling}
 use Rattle.router_ports.specs.declared.Owner.{Owner}
 use Rattle.router_ports.specs.declared.Owner.the-variants.{Free, By}
-use Rattle.router_ports.specs.declared.Router.{Router}
+use Rattle.router_ports.specs.Records.{Router}
 use Rattle.router_ports.proofs.EachLaws.{none-at}
 use Rattle.router_ports.proofs.PortLaws.{ModeOk, OwnerOk, Agree}
 use Rattle.router_ports.proofs.StateLaws.{Shape, Sound}

@@ -1,12 +1,24 @@
 -- A range of numbers, taken from its first on: what the loops over ports and stores follow.
 -- Assumes nothing.
-use mathlib.Core.Path.{_≡_, ap, _∙_}
-use mathlib.Core.Bool.{Bool, false, _||_}
+use mathlib.Core.Path.{_≡_, refl, ap, _∙_}
+use mathlib.Core.Bool.{Bool, true, false, _||_}
 use Prim.Native.Nat.{ℕ, zero, suc, _+_, _-_, _≤_, _<_}
 use native.Mathlib.Decide.{ℕ-discrete}
 use native.Mathlib.Omega.{arith}
 use Rattle.store.proofs.OrLaws.{or-left, or-right}
 use Rattle.router_ports.specs.Each.{each, any}
+
+pub or-true : (b : Bool) → b || true ≡ true
+or-true true = refl
+or-true false = refl
+
+pub or-false : (b : Bool) → b || false ≡ b
+or-false true = refl
+or-false false = refl
+
+pub or-joins : (a b c : Bool) → a || (b || c) ≡ (a || b) || c
+or-joins true b c = refl
+or-joins false b c = refl
 
 some-left : (i n : ℕ) → i < n → n - i ≡ suc (n - (i + 1))
 some-left i n h = omega arith

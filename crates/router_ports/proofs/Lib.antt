@@ -3,3 +3,9 @@ pub mod PlaceLaws
 pub mod PortLaws
 pub mod StateLaws
 pub mod AcceptedLaws
+pub mod ListedLaws
+pub mod PlaceWords
+pub mod LayoutLaws
+pub mod StateWordsLaws
+pub mod KeepsProof
+pub mod FitsProof

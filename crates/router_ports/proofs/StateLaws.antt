@@ -13,7 +13,7 @@ use borrow.Author.Tests.{lt-ltb, le-ltb, ltb-true, eq-eqb}
 use borrow.Rule.Slice.PartMut.{same-len-mid}
 use Rattle.vocabulary.specs.Choice.{pick}
 use Rattle.store.specs.Ring.{badStore}
-use Rattle.store.specs.Changes.{freshStore, putStore, putPlaces, dropped}
+use Rattle.store.specs.Changes.{freshStore, putStore, putPlaces, withoutFirst}
 use Rattle.store.specs.declared.Store.{Store}
 use Rattle.store.proofs.RingLaws.{put-good, drop-good, put-keeps-length}
 use Rattle.router_ports.specs.Each.{any}
@@ -25,7 +25,8 @@ use Rattle.router_ports.specs.declared.Mode.the-variants.{Idle, Waiting,
 use Rattle.router_ports.specs.declared.Owner.{Owner}
 use Rattle.router_ports.specs.declared.Owner.the-variants.{Free, By}
 use Rattle.router_ports.specs.declared.Output.{Output}
-use Rattle.router_ports.specs.declared.Router.{Router}
+use Rattle.router_ports.specs.Records.{Router}
+use Rattle.router_ports.proofs.PlaceLaws.{places-length}
 use Rattle.router_ports.proofs.PortLaws.{ModeOk, OwnerOk, Agree, OneInput, OneOutput}
 
 -- as many inputs, outputs and stores as there are: so it is in every value of the type
@@ -133,15 +134,6 @@ module _ (size : ℕ) (s : Router) (shape : Shape s) (fits : StoresFit size s) (
 abbrev stored : Router → ℕ → Store → Router
 stored s k st = record { inputs = s .inputs; outputs = s .outputs; stores = set (s .stores) k st }
 
--- a store past the last is not changed, whatever it would hold
-pub store-picked : (s : Router) (k : ℕ) (st old : Store) → withStore s k (pick (ltb k 22) st old) ≡ withStore s k st
-unfolding withStore
-store-picked s k st old = go (ltb k 22)
-  where
-    go : (b : Bool) → pick b (stored s k (pick b st old)) s ≡ pick b (stored s k st) s
-    go true = refl
-    go false = refl
-
 module _ (s : Router) (k : ℕ) (st : Store) where
   pub store-keeps-modes : (i : ℕ) → modeAt (withStore s k st) i ≡ modeAt s i
   unfolding withStore
@@ -159,6 +151,45 @@ module _ (s : Router) (k : ℕ) (st : Store) where
       go true = agree
       go false = agree
 
+-- and a store after a change
+
+module _ (s : Router) (i : ℕ) (m : Mode) (k : ℕ) where
+  pub mode-keeps-stores : storeAt (withMode s i m) k ≡ storeAt s k
+  unfolding withMode
+  mode-keeps-stores = go (ltb i 11)
+    where
+      go : (b : Bool) →
+          storeAt (pick b (record { inputs = set (s .inputs) i (record { mode = m }); outputs = s .outputs; stores = s .stores }) s) k
+          ≡ storeAt s k
+      go true = refl
+      go false = refl
+
+module _ (s : Router) (o : ℕ) (out : Output) where
+  pub output-keeps-stores : (k : ℕ) → storeAt (withOutput s o out) k ≡ storeAt s k
+  unfolding withOutput
+  output-keeps-stores k = go (ltb o 11)
+    where
+      go : (b : Bool) →
+          storeAt (pick b (record { inputs = s .inputs; outputs = set (s .outputs) o out; stores = s .stores }) s) k
+          ≡ storeAt s k
+      go true = refl
+      go false = refl
+
+module _ (s : Router) (shape : Shape s) (k : ℕ) (st : Store) where
+  pub store-new : k < 22 → storeAt (withStore s k st) k ≡ st
+  unfolding withStore
+  store-new h = rw (lt-ltb k 22 h, getD-set-same (s .stores) k st freshStore (omega (arith, shape .stores)))
+
+  pub store-others : (j : ℕ) → (j ≡ k → ⊥) → storeAt (withStore s k st) j ≡ storeAt s j
+  unfolding withStore
+  store-others j d = go (ltb k 22)
+    where
+      go : (b : Bool) →
+          storeAt (pick b (record { inputs = s .inputs; outputs = s .outputs; stores = set (s .stores) k st }) s) j
+          ≡ storeAt s j
+      go true = rw (getD-set-other (s .stores) k j st freshStore d)
+      go false = refl
+
 -- what is kept of a router and its area of n places
 
 pub record Sound (n : ℕ) (x : Machine) : Type 0 where
@@ -173,12 +204,12 @@ module _ (n : ℕ) (x : Machine) (sound : Sound n x) (k : ℕ) where
   drop-sound =
       let s = x .router in
       let size = sizeIn (x .area) in
-      let st = dropped size (storeAt s k) 1 in
+      let st = withoutFirst (placesAt (x .area) k) (storeAt s k) in
       record {
         shape = store-shape size s (sound .shape) (sound .fits) k st;
         agree = store-agrees s k st (sound .agree);
         fits = store-fits size s (sound .shape) (sound .fits) k st
-            (λ h. drop-good size (storeAt s k) (sound .fits .fit k h) 1);
+            (λ h. rw (places-length (x .area) k h) (drop-good size (storeAt s k) (sound .fits .fit k h) 1));
         size = sound .size;
       }
 
@@ -196,13 +227,13 @@ module _ (n : ℕ) (x : Machine) (sound : Sound n x) (k : ℕ) where
   append-sound c =
       let s = x .router in
       let size = sizeIn (x .area) in
-      let st = putStore size (storeAt s k) in
+      let st = putStore size (storeAt s k) c in
       let kept = area-kept c (ltb k 22) refl in
       record {
         shape = store-shape size s (sound .shape) (sound .fits) k st;
         agree = store-agrees s k st (sound .agree);
         fits = rw kept (store-fits size s (sound .shape) (sound .fits) k st
-            (λ h. put-good size (storeAt s k) (sound .fits .fit k h)));
+            (λ h. put-good size (storeAt s k) c (sound .fits .fit k h)));
         size = kept ∙ sound .size;
       }
 
@@ -218,7 +249,7 @@ owner-good : (s : Router) (o : ℕ) (w : Owner) → OwnerOk (modeAt s) o w → b
 owner-good s o Free ok = refl
 owner-good s o (By i) ok = rw (le-ltb 10 i (omega (arith, ok .0)), ok .1, eq-eqb o o refl)
 
-any-none : (f : ℕ → Bool) (bound : ℕ) → ((k : ℕ) → k < bound → f k ≡ false) → (from count : ℕ) → from + count ≤ bound →
+pub any-none : (f : ℕ → Bool) (bound : ℕ) → ((k : ℕ) → k < bound → f k ≡ false) → (from count : ℕ) → from + count ≤ bound →
     any f from count ≡ false
 unfolding any
 any-none f bound none from zero h = refl

@@ -1,5 +1,9 @@
 pub mod Each
+pub mod Layout
+pub mod Records
 pub mod Ports
 pub mod Numbers
 pub mod Places
 pub mod Refusals
+pub mod RouterWords
+pub mod StateWords

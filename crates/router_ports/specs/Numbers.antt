@@ -2,7 +2,7 @@
 -- carries no such value has zero.
 -- Assumes nothing.
 use Prim.Native.Nat.{ℕ}
-use mathlib.Core.Bool.{false}
+use mathlib.Core.Bool.{Bool, true, false}
 use Rattle.router_ports.specs.declared.Wanted.{Wanted}
 use Rattle.router_ports.specs.declared.Mode.{Mode}
 use Rattle.router_ports.specs.declared.Mode.the-variants.{Idle, Waiting, Routed, Spilling}
@@ -15,6 +15,18 @@ modeNumber Idle = 0
 modeNumber (Waiting w) = 1
 modeNumber (Routed o) = 2
 modeNumber Spilling = 3
+
+abbrev pub isIdle : Mode → Bool
+isIdle Idle = true
+isIdle (Waiting w) = false
+isIdle (Routed o) = false
+isIdle Spilling = false
+
+abbrev pub isWaiting : Mode → Bool
+isWaiting Idle = false
+isWaiting (Waiting w) = true
+isWaiting (Routed o) = false
+isWaiting Spilling = false
 
 abbrev pub wantsNothing : Wanted
 wantsNothing = record { ports = 0; high = false }

@@ -7,10 +7,10 @@ use lib.ListN.{length, take, drop}
 use lib.Dec.{eqb, ltb}
 use Rattle.vocabulary.specs.Choice.{pick}
 use Rattle.store.specs.Ring.{full, empty}
-use Rattle.store.specs.Changes.{putStore, putPlaces, frontOf, dropped}
+use Rattle.store.specs.Changes.{putStore, putPlaces, frontOf, withoutFirst}
 use Rattle.store.specs.declared.Store.{Store}
 use Rattle.router_ports.specs.Ports.{storeAt, withStore}
-use Rattle.router_ports.specs.declared.Router.{Router}
+use Rattle.router_ports.specs.Records.{Router}
 
 -- the router's state, and what its lent area holds
 pub record Machine : Type 0 where
@@ -45,7 +45,7 @@ frontAt x k = pick (ltb k 22) (frontOf (placesAt (x .area) k) (storeAt (x .route
 
 unfoldable pub withoutFront : Machine → ℕ → Machine
 withoutFront x k =
-    machine (withStore (x .router) k (dropped (sizeIn (x .area)) (storeAt (x .router) k) 1)) (x .area)
+    machine (withStore (x .router) k (withoutFirst (placesAt (x .area) k) (storeAt (x .router) k))) (x .area)
 
 -- the area with an N-Char behind those of store k, whose record this is
 abbrev pub putAt : List ℕ → ℕ → Store → ℕ → List ℕ
@@ -53,5 +53,5 @@ putAt area k st n = pick (ltb k 22) (withPlaces area k (putPlaces (placesAt area
 
 unfoldable pub withBehind : Machine → ℕ → ℕ → Machine
 withBehind x k n =
-    machine (withStore (x .router) k (putStore (sizeIn (x .area)) (storeAt (x .router) k)))
+    machine (withStore (x .router) k (putStore (sizeIn (x .area)) (storeAt (x .router) k) n))
     (putAt (x .area) k (storeAt (x .router) k) n)

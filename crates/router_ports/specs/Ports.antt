@@ -11,9 +11,9 @@ use Rattle.store.specs.declared.Store.{Store}
 use Rattle.router_ports.specs.declared.Mode.{Mode}
 use Rattle.router_ports.specs.declared.Mode.the-variants.{Idle}
 use Rattle.router_ports.specs.declared.Owner.the-variants.{Free}
-use Rattle.router_ports.specs.declared.Input.{Input}
+use Rattle.router_ports.specs.Records.{Input}
 use Rattle.router_ports.specs.declared.Output.{Output}
-use Rattle.router_ports.specs.declared.Router.{Router}
+use Rattle.router_ports.specs.Records.{Router}
 
 -- "Each has an input store, put to by the host, and an output store, taken from by it." Inputs' stores come first.
 abbrev pub inputStore : ℕ → ℕ

@@ -15,7 +15,7 @@ use Rattle.router_ports.specs.declared.Mode.{Mode}
 use Rattle.router_ports.specs.declared.Mode.the-variants.{Idle, Waiting, Routed, Spilling}
 use Rattle.router_ports.specs.declared.Owner.{Owner}
 use Rattle.router_ports.specs.declared.Owner.the-variants.{Free, By}
-use Rattle.router_ports.specs.declared.Router.{Router}
+use Rattle.router_ports.specs.Records.{Router}
 
 abbrev pub isOwner : Owner → ℕ → Bool
 isOwner Free i = false

@@ -12,20 +12,19 @@ use borrow.Author.Tests.{lt-ltb, eq-eqb, ne-eqb, lt-leb, leb-false}
 use Rattle.vocabulary.specs.Choice.{pick}
 use Rattle.vocabulary.specs.NChars.{readAs}
 use Rattle.store.specs.Ring.{full, standing, waiting, badStore}
-use Rattle.store.specs.Changes.{putStore, putPlaces, frontOf, dropped}
+use Rattle.store.specs.Changes.{putStore, putPlaces, frontOf, dropped, withoutFirst}
 use Rattle.store.specs.declared.Store.{Store}
 use Rattle.store.proofs.RingLaws.{waiting-length, put-appends, drop-drops, front-is-first, put-keeps-length}
 use Rattle.router_ports.specs.Ports.{modeAt, outputAt, storeAt, withMode, withOutput, withStore}
 use Rattle.router_ports.specs.Places.{Machine, machine, sizeIn, placesAt, withPlaces, emptyAt, fullAt, frontAt, withoutFront, withBehind}
 use Rattle.router_ports.specs.declared.Mode.{Mode}
 use Rattle.router_ports.specs.declared.Output.{Output}
-use Rattle.router_ports.specs.declared.Router.{Router}
+use Rattle.router_ports.specs.Records.{Router}
 use Rattle.router_ports.proofs.PlaceLaws.{places-length}
 use Rattle.router_ports.proofs.StateLaws.{Shape, Sound, mode-changed, output-changed, mode-keeps-outputs, output-keeps-modes}
-use Rattle.router_ports.proofs.StateLaws.{store-keeps-modes}
+use Rattle.router_ports.proofs.StateLaws.{store-keeps-modes, mode-keeps-stores, output-keeps-stores, store-new, store-others}
 use Rattle.router_rounds.specs.Model.{Model, model, at, isNil, first}
 use Rattle.router_rounds.specs.Exact.{exact}
-use Rattle.router_rounds.proofs.FallLaws.{mode-keeps-stores, output-keeps-stores, store-new, store-others}
 use Rattle.router_rings.specs.Tied.{heldAt, Tied}
 use Rattle.router_rings.proofs.PartLaws.{part-written, part-untouched}
 
@@ -136,11 +135,10 @@ module _ (n : ℕ) (x : Machine) (y : Model) (r : Lists n x y) (k : ℕ) (h : k 
   drop-tied some =
       let s = x .router in
       let shape = r .sound .shape in
-      let shorter = dropped (sizeIn (x .area)) (storeAt s k) 1 in
+      let shorter = withoutFirst places (storeAt s k) in
       let one : 1 ≤ storeAt s k .len = leb-false (storeAt s k .len) 0 some in
       let new : heldAt (machine (withStore s k shorter) (x .area)) k ≡ drop 1 (y .held k) =
       ap (waiting places) (store-new s shape k shorter h)
-      ∙ ap (λ (m : ℕ). waiting places (dropped m (storeAt s k) 1)) (sym (sized n x y r k h))
       ∙ drop-drops places (storeAt s k) (good n x y r k h) 1 one
       ∙ ap (drop 1) (r .tied .held k) in
       record {
@@ -156,7 +154,7 @@ module _ (n : ℕ) (x : Machine) (y : Model) (r : Lists n x y) (k : ℕ) (h : k 
   append-tied c small room =
       let s = x .router in
       let shape = r .sound .shape in
-      let longer = putStore (sizeIn (x .area)) (storeAt s k) in
+      let longer = putStore (sizeIn (x .area)) (storeAt s k) c in
       let filled = putPlaces places (storeAt s k) c in
       let same : length filled ≡ sizeIn (x .area) = put-keeps-length places (storeAt s k) c ∙ sized n x y r k h in
       let area : List ℕ = withPlaces (x .area) k filled in
@@ -165,7 +163,7 @@ module _ (n : ℕ) (x : Machine) (y : Model) (r : Lists n x y) (k : ℕ) (h : k 
       ∙ ap (λ (b : Bool). pick b (full (sizeIn (x .area)) (storeAt s k)) true) (sym (lt-ltb k 22 h)) ∙ room in
       let new : heldAt (machine (withStore s k longer) area) k ≡ y .held k ++ c ∷ [] =
       ap₂ waiting (part-written (x .area) k h filled same) (store-new s shape k longer h)
-      ∙ ap (λ (m : ℕ). waiting filled (putStore m (storeAt s k))) (sym (sized n x y r k h))
+      ∙ ap (λ (m : ℕ). waiting filled (putStore m (storeAt s k) c)) (sym (sized n x y r k h))
       ∙ put-appends places (storeAt s k) c (good n x y r k h) space
       ∙ ap₂ (λ (ns : List ℕ) (m : ℕ). ns ++ m ∷ []) (r .tied .held k) small in
       subst (λ (b : Bool). Tied (machine (withStore s k longer) (pick b area (x .area))) (model (n / 22) .append y k c))

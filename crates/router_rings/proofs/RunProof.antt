@@ -22,14 +22,14 @@ use Rattle.router_ports.specs.declared.Mode.the-variants.{Idle, Routed, Spillin
 use Rattle.router_ports.specs.declared.Owner.the-variants.{Free, By}
 use Rattle.router_ports.specs.declared.Output.{Output}
 use Rattle.router_ports.proofs.PortLaws.{ModeOk}
-use Rattle.router_ports.proofs.StateLaws.{Sound, output-shape, drop-sound, append-sound}
+use Rattle.router_ports.proofs.StateLaws.{Sound, output-shape, mode-keeps-stores, drop-sound, append-sound}
 use Rattle.router_rounds.specs.Addresses.{waits}
 use Rattle.router_rounds.specs.Moves.{frees, carries}
 use Rattle.router_rounds.specs.Model.{Model, model}
 use Rattle.router_rounds.specs.Exact.{exact}
 use Rattle.router_rounds.proofs.KeepLaws.{wish}
 use Rattle.router_rounds.proofs.SoundLaws.{sound-kept, waits-below}
-use Rattle.router_rounds.proofs.FallLaws.{mode-keeps-stores, append-keeps-empty}
+use Rattle.router_rounds.proofs.FallLaws.{append-keeps-empty}
 use Rattle.router_rounds.proofs.DeedLaws.{frontIn, Stands, Moves, Shows, Deeds}
 use Rattle.router_rings.proofs.RingProof.{Lists, shows-empty, shows-full, shows-front}
 use Rattle.router_rings.proofs.RingProof.{mode-tied, output-tied, drop-tied, append-tied}

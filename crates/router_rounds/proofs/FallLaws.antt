@@ -1,28 +1,27 @@
--- What is left to do falls with every change. An input has four steps left for each N-Char that waits, two more while it is
--- idle, one more while it waits or spills: an N-Char that leaves takes four, a mode that goes on takes one or more.
+-- What is left to do falls with every change. An input has six steps left for each N-Char that waits, and four more while it
+-- is idle, three while it waits, two while it is routed, none while it spills: an N-Char that leaves takes six, a mode that
+-- goes on takes one or more, and no mode gives back as many.
 -- Assumes nothing.
 use mathlib.Core.Path.{_≡_, refl, sym, ap, ap₂, _∙_}
-use mathlib.Core.Bool.{Bool, true, false}
+use mathlib.Core.Bool.{false}
 use Prim.Native.Nat.{ℕ, zero, suc, _+_, _*_, _-_, _<_}
 use native.Mathlib.Nat.{not-suc-le-zero}
 use native.Mathlib.Decide.{ℕ-discrete}
 use native.Mathlib.Omega.{arith}
-use lib.Dec.{ltb}
-use lib.ListN.{set}
-use lib.Seq.{getD-set-same, getD-set-other}
-use borrow.Author.Tests.{lt-ltb, leb-false}
-use Rattle.vocabulary.specs.Choice.{pick}
-use Rattle.store.specs.Ring.{empty}
-use Rattle.store.specs.Changes.{freshStore, dropped}
+use lib.ListN.{length}
+use borrow.Author.Tests.{leb-false}
+use Rattle.store.specs.Ring.{empty, badStore}
+use Rattle.store.specs.Changes.{withoutFirst}
 use Rattle.store.specs.declared.Store.{Store}
 use Rattle.store.proofs.RingLaws.{drop-len}
 use Rattle.router_ports.specs.Ports.{modeAt, storeAt, withMode, withOutput, withStore, inputStore, outputStore}
-use Rattle.router_ports.specs.Places.{Machine, machine, sizeIn, emptyAt, withoutFront, withBehind}
+use Rattle.router_ports.specs.Places.{Machine, machine, placesAt, emptyAt, withoutFront, withBehind}
 use Rattle.router_ports.specs.declared.Mode.{Mode}
 use Rattle.router_ports.specs.declared.Mode.the-variants.{Idle, Waiting, Routed, Spilling}
 use Rattle.router_ports.specs.declared.Output.{Output}
-use Rattle.router_ports.specs.declared.Router.{Router}
-use Rattle.router_ports.proofs.StateLaws.{Shape, Sound, mode-changed, output-keeps-modes, output-shape, store-keeps-modes}
+use Rattle.router_ports.proofs.PlaceLaws.{places-length}
+use Rattle.router_ports.proofs.StateLaws.{Shape, Sound, mode-changed, mode-keeps-stores, output-keeps-modes, output-keeps-stores}
+use Rattle.router_ports.proofs.StateLaws.{output-shape, store-keeps-modes, store-new, store-others}
 
 -- a sum of which one part changes
 
@@ -53,10 +52,10 @@ total-at f g (suc n) i h same = go (ℕ-discrete i n) (λ l. total-at f g n i l 
         omega arith
 
 abbrev pub leftOf : Mode → ℕ → ℕ
-leftOf Idle len = 4 * len + 2
-leftOf (Waiting w) len = 4 * len + 1
-leftOf (Routed o) len = 4 * len
-leftOf Spilling len = 4 * len + 1
+leftOf Idle len = 6 * len + 4
+leftOf (Waiting w) len = 6 * len + 3
+leftOf (Routed o) len = 6 * len + 2
+leftOf Spilling len = 6 * len
 
 abbrev pub leftAt : Machine → ℕ → ℕ
 leftAt x i = leftOf (modeAt (x .router) i) (storeAt (x .router) (inputStore i) .len)
@@ -74,67 +73,29 @@ pub left-same : (x y : Machine) → ((j : ℕ) → j < 11 → leftAt y j ≡ lef
 unfolding left
 left-same x y same = total-same (leftAt x) (leftAt y) 11 same
 
--- stores after a change
-
-module _ (s : Router) (i : ℕ) (m : Mode) (k : ℕ) where
-  pub mode-keeps-stores : storeAt (withMode s i m) k ≡ storeAt s k
-  unfolding withMode
-  mode-keeps-stores = go (ltb i 11)
-    where
-      go : (b : Bool) →
-          storeAt (pick b (record { inputs = set (s .inputs) i (record { mode = m }); outputs = s .outputs; stores = s .stores }) s) k
-          ≡ storeAt s k
-      go true = refl
-      go false = refl
-
-module _ (s : Router) (o : ℕ) (out : Output) where
-  pub output-keeps-stores : (k : ℕ) → storeAt (withOutput s o out) k ≡ storeAt s k
-  unfolding withOutput
-  output-keeps-stores k = go (ltb o 11)
-    where
-      go : (b : Bool) →
-          storeAt (pick b (record { inputs = s .inputs; outputs = set (s .outputs) o out; stores = s .stores }) s) k
-          ≡ storeAt s k
-      go true = refl
-      go false = refl
-
-module _ (s : Router) (shape : Shape s) (k : ℕ) (st : Store) where
-  pub store-new : k < 22 → storeAt (withStore s k st) k ≡ st
-  unfolding withStore
-  store-new h = rw (lt-ltb k 22 h, getD-set-same (s .stores) k st freshStore (omega (arith, shape .stores)))
-
-  pub store-others : (j : ℕ) → (j ≡ k → ⊥) → storeAt (withStore s k st) j ≡ storeAt s j
-  unfolding withStore
-  store-others j d = go (ltb k 22)
-    where
-      go : (b : Bool) →
-          storeAt (pick b (record { inputs = s .inputs; outputs = s .outputs; stores = set (s .stores) k st }) s) j
-          ≡ storeAt s j
-      go true = rw (getD-set-other (s .stores) k j st freshStore d)
-      go false = refl
-
-one-less : (m : Mode) (len : ℕ) → 0 < len → leftOf m (len - 1) + 4 ≡ leftOf m len
+one-less : (m : Mode) (len : ℕ) → 0 < len → leftOf m (len - 1) + 6 ≡ leftOf m len
 one-less Idle len h = omega arith
 one-less (Waiting w) len h = omega arith
 one-less (Routed o) len h = omega arith
 one-less Spilling len h = omega arith
 
 module _ (n : ℕ) (x : Machine) (sound : Sound n x) where
-  -- an N-Char leaves: four
-  pub drop-falls : (i : ℕ) → i < 11 → emptyAt x (inputStore i) ≡ false → left (withoutFront x (inputStore i)) + 4 ≡ left x
+  -- an N-Char leaves: six
+  pub drop-falls : (i : ℕ) → i < 11 → emptyAt x (inputStore i) ≡ false → left (withoutFront x (inputStore i)) + 6 ≡ left x
   unfolding withoutFront
   drop-falls i h some =
       let s = x .router in
-      let size = sizeIn (x .area) in
       let st = storeAt s i in
+      let new = withoutFirst (placesAt (x .area) i) st in
       let one : 0 < st .len = leb-false (st .len) 0 some in
-      let fewer : storeAt (withStore s i (dropped size st 1)) i .len ≡ st .len - 1 =
-      ap (λ (t : Store). t .len) (store-new s (sound .shape) i (dropped size st 1) (omega arith))
-      ∙ drop-len size st (sound .fits .fit i (omega arith)) 1 one in
-      let now = ap₂ leftOf (store-keeps-modes s i (dropped size st 1) i) fewer in
-      let sum = left-at x (machine (withStore s i (dropped size st 1)) (x .area)) i h
-      (λ j l d. ap₂ leftOf (store-keeps-modes s i (dropped size st 1) j)
-      (ap (λ (t : Store). t .len) (store-others s (sound .shape) i (dropped size st 1) j d))) in
+      let fits : badStore (length (placesAt (x .area) i)) st ≡ false = rw (places-length (x .area) i (omega arith)) (sound .fits .fit i (omega arith)) in
+      let fewer : storeAt (withStore s i new) i .len ≡ st .len - 1 =
+      ap (λ (t : Store). t .len) (store-new s (sound .shape) i new (omega arith))
+      ∙ drop-len (length (placesAt (x .area) i)) st fits 1 one in
+      let now = ap₂ leftOf (store-keeps-modes s i new i) fewer in
+      let sum = left-at x (machine (withStore s i new) (x .area)) i h
+      (λ j l d. ap₂ leftOf (store-keeps-modes s i new j)
+      (ap (λ (t : Store). t .len) (store-others s (sound .shape) i new j d))) in
       omega (arith, sum, now, one-less (modeAt s i) (st .len) one)
 
   pub append-falls : (o c : ℕ) → left (withBehind x (outputStore o) c) ≡ left x

@@ -14,15 +14,17 @@ use lib.Seq.{drop-append-le, drop-append-add}
 use borrow.Author.Tests.{lt-ltb, le-ltb}
 use Rattle.vocabulary.specs.Choice.{pick}
 use Rattle.router_ports.specs.Each.{each, any}
-use Rattle.router_ports.specs.Ports.{modeAt}
+use Rattle.store.specs.Ring.{empty}
+use Rattle.router_ports.specs.Ports.{modeAt, storeAt, inputStore}
 use Rattle.router_ports.specs.declared.Mode.{Mode}
 use Rattle.router_ports.specs.declared.Mode.the-variants.{Idle, Waiting, Routed, Spilling}
 use Rattle.router_ports.proofs.EachLaws.{none-at}
-use Rattle.port_words.specs.RouterWords.{routerOf}
+use Rattle.router_ports.specs.RouterWords.{routerOf}
 use Rattle.router_rounds.specs.Acts.{Acts, Tally}
 use Rattle.router_rounds.specs.Grants.{Candidate, Choice, nobody, input, cyclic, candidates, firstThat}
 use Rattle.router_rounds.specs.Grants.{isFree, waitsFor, fits, grantsTo, grants, part2}
-use Rattle.router_rounds.specs.InWords.{isWaiting}
+use Rattle.router_rounds.specs.Addresses.{reads, ifIdle, addresses, part1}
+use Rattle.router_rounds.specs.InWords.{stirs}
 
 abbrev pub candidate : ℕ → ℕ → Candidate
 candidate last k = record { high = ltb k 11; input = (last + (k + 1)) % 11 }
@@ -102,28 +104,32 @@ module _ (fits : Candidate → Bool) (last k : ℕ) where
 
 -- where no input waits, part 2 does nothing
 
-not-waiting : (o : ℕ) (high : Bool) (m : Mode) → isWaiting m ≡ false → waitsFor o high m ≡ false
-not-waiting o high Idle e = refl
-not-waiting o high (Waiting w) e = absurd (false≢true (sym e))
-not-waiting o high (Routed p) e = refl
-not-waiting o high Spilling e = refl
+not-waiting : (o : ℕ) (high none : Bool) (m : Mode) → stirs m none ≡ false → waitsFor o high m ≡ false
+not-waiting o high none Idle e = refl
+not-waiting o high none (Waiting w) e = absurd (false≢true (sym e))
+not-waiting o high none (Routed p) e = refl
+not-waiting o high none Spilling e = refl
 
 none-fits : (fit : Candidate → Bool) → ((c : Candidate) → fit c ≡ false) → (cs : List Candidate) → firstThat fit cs ≡ nobody
 unfolding firstThat
 none-fits fit none [] = refl
 none-fits fit none (c ∷ cs) = rw (none c, none-fits fit none cs)
 
-each-none : {S : Type 0} (f : S → ℕ → S) (s : S) → ((i : ℕ) → f s i ≡ s) → (from count : ℕ) → each f from count s ≡ s
+each-none : {S : Type 0} (f : S → ℕ → S) (s : S) (bound : ℕ) → ((i : ℕ) → i < bound → f s i ≡ s) →
+    (from count : ℕ) → from + count ≤ bound → each f from count s ≡ s
 unfolding each
-each-none f s none from zero = refl
-each-none f s none from (suc count) = rw (none from, each-none f s none (from + 1) count)
+each-none f s bound still from zero h = refl
+each-none f s bound still from (suc count) h =
+    ap (each f (from + 1) count) (still from (omega (arith, h)))
+    ∙ each-none f s bound still (from + 1) count (omega (arith, h))
 
-module _ {X : Type 0} (M : Acts X) (t : Tally X) (none : (i : ℕ) → isWaiting (M .mode (t .now) i) ≡ false) where
+module _ {X : Type 0} (M : Acts X) (t : Tally X)
+    (unwaited : (o : ℕ) (high : Bool) (i : ℕ) → waitsFor o high (M .mode (t .now) i) ≡ false) where
   grants-nobody : (o : ℕ) → grants M t o ≡ t
   unfolding grants
   grants-nobody o =
       ap (λ (c : Choice). pick (isFree (M .output (t .now) o .owner)) (grantsTo M t o c) t)
-      (none-fits (fits M (t .now) o) (λ c. not-waiting o (c .high) (M .mode (t .now) (c .input)) (none (c .input)))
+      (none-fits (fits M (t .now) o) (λ c. unwaited o (c .high) (c .input))
       (candidates (M .output (t .now) o .last)))
       ∙ go (isFree (M .output (t .now) o .owner))
     where
@@ -131,14 +137,37 @@ module _ {X : Type 0} (M : Acts X) (t : Tally X) (none : (i : ℕ) → isWaiting
       go true = refl
       go false = refl
 
-  pub nobody-waits : part2 M t ≡ t
+  pub grants-still : part2 M t ≡ t
   unfolding part2
-  nobody-waits = each-none (grants M) t grants-nobody 0 11
+  grants-still = each-none (grants M) t 11 (λ o h. grants-nobody o) 0 11 (omega arith)
 
-pub none-waits : (state : List ℕ) → any (λ (i : ℕ). isWaiting (modeAt (routerOf state) i)) 0 11 ≡ false →
-    (i : ℕ) → isWaiting (modeAt (routerOf state) i) ≡ false
-none-waits state e i = go (decLt i 11)
-  where
-    go : Dec (i < 11) → isWaiting (modeAt (routerOf state) i) ≡ false
-    go (yes h) = none-at (λ (j : ℕ). isWaiting (modeAt (routerOf state) j)) 0 11 i e (omega arith) (omega (arith, h))
-    go (no d) = rw (le-ltb i 11 (omega (arith, d)))
+module _ {X : Type 0} (M : Acts X) (t : Tally X)
+    (still : (i : ℕ) → i < 11 → stirs (M .mode (t .now) i) (M .isEmpty (t .now) (inputStore i)) ≡ false) where
+  reads-nothing : (table : List ℕ) (i : ℕ) → i < 11 → addresses M table t i ≡ t
+  unfolding addresses reads
+  reads-nothing table i h = go (M .mode (t .now) i) (M .isEmpty (t .now) (inputStore i)) refl (still i h)
+    where
+      go : (m : Mode) (none : Bool) → M .isEmpty (t .now) (inputStore i) ≡ none → stirs m none ≡ false → ifIdle M table t i m ≡ t
+      go Idle true e s = rw e
+      go Idle false e s = absurd (false≢true (sym s))
+      go (Waiting w) none e s = refl
+      go (Routed o) none e s = refl
+      go Spilling none e s = refl
+
+  pub reads-still : (table : List ℕ) → part1 M table t ≡ t
+  unfolding part1
+  reads-still table = each-none (addresses M table) t 11 (reads-nothing table) 0 11 (omega arith)
+
+abbrev pub stirsAt : List ℕ → ℕ → Bool
+stirsAt state i = stirs (modeAt (routerOf state) i) (empty (storeAt (routerOf state) i))
+
+module _ (state : List ℕ) (e : any (stirsAt state) 0 11 ≡ false) where
+  pub none-stirs : (i : ℕ) → i < 11 → stirsAt state i ≡ false
+  none-stirs i h = none-at (stirsAt state) 0 11 i e (omega arith) (omega (arith, h))
+
+  pub none-waits : (o : ℕ) (high : Bool) (i : ℕ) → waitsFor o high (modeAt (routerOf state) i) ≡ false
+  none-waits o high i = go (decLt i 11)
+    where
+      go : Dec (i < 11) → waitsFor o high (modeAt (routerOf state) i) ≡ false
+      go (yes h) = not-waiting o high _ (modeAt (routerOf state) i) (none-stirs i h)
+      go (no d) = rw (le-ltb i 11 (omega (arith, d)))

@@ -18,7 +18,7 @@ use Rattle.router_ports.specs.declared.Mode.the-variants.{Idle, Waiting, Routed
 use Rattle.router_ports.specs.declared.Owner.the-variants.{Free, By}
 use Rattle.router_ports.specs.declared.Output.{Output}
 use Rattle.router_ports.proofs.PortLaws.{ModeOk}
-use Rattle.router_ports.proofs.StateLaws.{Sound, drop-sound, append-sound}
+use Rattle.router_ports.proofs.StateLaws.{Sound, mode-keeps-stores, drop-sound, append-sound}
 use Rattle.router_rounds.specs.Acts.{Tally, changedTo, countMoved, countError, countRound}
 use Rattle.router_rounds.specs.Addresses.{waits, follows, reads, ifIdle, addresses, part1}
 use Rattle.router_rounds.specs.Grants.{Choice, nobody, input, isFree, waitsFor, fits, candidates, chosen, granted, grantsTo, grants, part2}
@@ -28,7 +28,6 @@ use Rattle.router_rounds.specs.Exact.{exact}
 use Rattle.router_rounds.proofs.KeepLaws.{Keeps, wish, each-keeps, first-fits, keeps-addresses, keeps-grants, keeps-sends, begins-kept}
 use Rattle.router_rounds.proofs.SoundLaws.{sound-kept, waits-below}
 use Rattle.router_rounds.proofs.FallLaws.{left, leftOf, drop-falls, append-falls, append-keeps-empty, mode-falls, both-fall}
-use Rattle.router_rounds.proofs.FallLaws.{mode-keeps-stores}
 
 -- nothing was done, or less is left
 data Falls (t u : Tally Machine) : Type 0 where
@@ -82,7 +81,7 @@ module _ (n : ℕ) (table : List ℕ) where
       go (Routed o) e = same refl
       go Spilling e = same refl
 
-  waiting-left : (o len : ℕ) (high : Bool) (m : Mode) → waitsFor o high m ≡ true → leftOf m len ≡ 4 * len + 1
+  waiting-left : (o len : ℕ) (high : Bool) (m : Mode) → waitsFor o high m ≡ true → leftOf m len ≡ 6 * len + 3
   waiting-left o len high Idle e = absurd (false≢true e)
   waiting-left o len high (Waiting w) e = refl
   waiting-left o len high (Routed p) e = absurd (false≢true e)

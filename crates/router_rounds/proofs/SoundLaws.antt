@@ -14,7 +14,7 @@ use Rattle.router_table.proofs.HeadingLaws.{some-ports}
 use Rattle.router_ports.specs.Ports.{modeAt, outputAt, withMode, withOutput, inputStore, outputStore}
 use Rattle.router_ports.specs.Places.{Machine, machine, withoutFront, withBehind}
 use Rattle.router_ports.specs.Refusals.{badWanted}
-use Rattle.router_ports.specs.declared.Router.{Router}
+use Rattle.router_ports.specs.Records.{Router}
 use Rattle.router_ports.specs.declared.Mode.{Mode}
 use Rattle.router_ports.specs.declared.Mode.the-variants.{Idle, Routed, Spilling}
 use Rattle.router_ports.specs.declared.Owner.{Owner}

@@ -6,29 +6,24 @@ use mathlib.Core.Bool.{Bool, true, false}
 use mathlib.Core.List.{List}
 use Prim.Native.Nat.{ℕ, _/_, _≤_, _<_}
 use native.Mathlib.Omega.{arith}
-use lib.Dec.{eqb, ltb}
-use borrow.Author.Tests.{ltb-false}
 use Rattle.vocabulary.specs.Choice.{pick}
-use Rattle.store.specs.Changes.{dropped, putStore}
-use Rattle.store.proofs.OrLaws.{or-right}
-use Rattle.store.proofs.RingLaws.{front-below, len-within}
+use Rattle.store.specs.Changes.{withoutFirst, putStore}
 use Rattle.router_table.specs.Headings.{heading}
 use Rattle.router_table.specs.declared.Direction.{Direction}
 use Rattle.router_table.specs.declared.Heading.the-variants.{Ports}
-use Rattle.router_ports.specs.Ports.{modeAt, outputAt, storeAt, inputStore, outputStore}
-use Rattle.router_ports.specs.Places.{Machine, machine, sizeIn, emptyAt, fullAt, frontAt, putAt, withoutFront, withBehind}
+use Rattle.router_ports.specs.Ports.{outputAt, storeAt, inputStore, outputStore}
+use Rattle.router_ports.specs.Places.{Machine, machine, sizeIn, placesAt, emptyAt, fullAt, frontAt, putAt, withoutFront, withBehind}
 use Rattle.router_ports.specs.declared.Mode.{Mode}
-use Rattle.router_ports.specs.declared.Mode.the-variants.{Idle, Waiting, Routed, Spilling}
-use Rattle.router_ports.specs.declared.Owner.{Owner}
+use Rattle.router_ports.specs.declared.Mode.the-variants.{Idle, Routed, Spilling}
 use Rattle.router_ports.specs.declared.Owner.the-variants.{Free, By}
 use Rattle.router_ports.specs.declared.Output.{Output}
-use Rattle.router_ports.specs.declared.Router.{Router}
-use Rattle.router_ports.proofs.PortLaws.{ModeOk, OwnerOk}
+use Rattle.router_ports.specs.Records.{Router}
+use Rattle.router_ports.proofs.PortLaws.{ModeOk}
 use Rattle.router_ports.proofs.StateLaws.{Sound, output-shape, drop-sound, append-sound}
-use Rattle.port_words.specs.RouterWords.{routerWords, withStoreIn, withoutFrontIn, withBehindIn}
-use Rattle.port_words.specs.RouterWords.{FitsMode, FitsOwner, FitsRouter}
-use Rattle.port_words.proofs.KeepsProof.{router-back}
-use Rattle.port_words.proofs.LayoutLaws.{mode-saved, output-saved, store-saved}
+use Rattle.router_ports.specs.RouterWords.{routerWords, withStoreIn, withoutFrontIn, withBehindIn}
+use Rattle.router_ports.proofs.KeepsProof.{router-back}
+use Rattle.router_ports.proofs.FitsProof.{sound-fits}
+use Rattle.router_ports.proofs.LayoutLaws.{mode-saved, output-saved, store-saved}
 use Rattle.router_rounds.specs.Addresses.{waits}
 use Rattle.router_rounds.specs.Moves.{frees, carries}
 use Rattle.router_rounds.specs.Rounds.{begun, rounds}
@@ -39,38 +34,9 @@ use Rattle.router_rounds.proofs.SoundLaws.{sound-kept, waits-below}
 use Rattle.router_rounds.proofs.DeedLaws.{frontIn, Stands, Moves, Shows, Deeds}
 use Rattle.router_rounds.proofs.WalkLaws.{rounds-level}
 
--- a sound router fits its words
-
-mode-fits : (outs : ℕ → Output) (i : ℕ) (m : Mode) → ModeOk outs i m → FitsMode m
-mode-fits outs i Idle ok = tt
-mode-fits outs i (Waiting w) ok =
-    let below = ltb-false 2047 (w .ports) (or-right (eqb (w .ports) 0) (ltb 2047 (w .ports)) ok) in
-    omega (arith, below)
-mode-fits outs i (Routed o) ok = omega (arith, ok .0)
-mode-fits outs i Spilling ok = tt
-
-owner-fits : (modes : ℕ → Mode) (o : ℕ) (w : Owner) → OwnerOk modes o w → FitsOwner w
-owner-fits modes o Free ok = tt
-owner-fits modes o (By i) ok = omega (arith, ok .0)
-
 module _ (n : ℕ) (small : n / 22 ≤ 1024) where
-  fits : (x : Machine) → Sound n x → FitsRouter (x .router)
-  fits x sound =
-      let s = x .router in
-      let size : sizeIn (x .area) ≡ n / 22 = ap (λ (m : ℕ). m / 22) (sound .size) in
-      record {
-        inputs = sound .shape .inputs;
-        outputs = sound .shape .outputs;
-        stores = sound .shape .stores;
-        modes = λ p h. mode-fits (outputAt s) p (modeAt s p) (sound .agree .inputs p h);
-        owners = λ p h. owner-fits (modeAt s) p (outputAt s p .owner) (sound .agree .owners p h);
-        lasts = λ p h. omega (arith, sound .agree .lasts p h);
-        fronts = λ k h. omega (arith, front-below (sizeIn (x .area)) (storeAt s k) (sound .fits .fit k h), size, small);
-        lens = λ k h. omega (arith, len-within (sizeIn (x .area)) (storeAt s k) (sound .fits .fit k h), size, small);
-      }
-
   pub loads-back : (x : Machine) → Sound n x → loaded (savedOf x) ≡ x
-  loads-back x sound = ap (λ (r : Router). machine r (x .area)) (router-back (x .router) (fits x sound))
+  loads-back x sound = ap (λ (r : Router). machine r (x .area)) (router-back (x .router) (sound-fits n small x sound))
 
   -- a sound router beside its words
   pub record InWords (x : Machine) (w : Words) : Type 0 where
@@ -108,10 +74,10 @@ module _ (n : ℕ) (small : n / 22 ≤ 1024) where
   drop-saved : (x : Machine) → Sound n x → (k : ℕ) → k < 22 → inWords .dropFront (savedOf x) k ≡ savedOf (withoutFront x k)
   unfolding withoutFrontIn withoutFront
   drop-saved x sound k h =
-      ap (λ (y : Machine). kept (withStoreIn (routerWords (x .router)) k (dropped (sizeIn (x .area)) (storeAt (y .router) k) 1)) (x .area))
+      ap (λ (y : Machine). kept (withStoreIn (routerWords (x .router)) k (withoutFirst (placesAt (x .area) k) (storeAt (y .router) k))) (x .area))
       (loads-back x sound)
       ∙ ap (λ (s : List ℕ). kept s (x .area))
-      (store-saved (x .router) (sound .shape) k (dropped (sizeIn (x .area)) (storeAt (x .router) k) 1) h)
+      (store-saved (x .router) (sound .shape) k (withoutFirst (placesAt (x .area) k) (storeAt (x .router) k)) h)
 
   drops : (x : Machine) (w : Words) (k : ℕ) → k < 22 → InWords x w → InWords (exact .dropFront x k) (inWords .dropFront w k)
   drops x w k h r =
@@ -123,11 +89,11 @@ module _ (n : ℕ) (small : n / 22 ≤ 1024) where
   append-saved : (x : Machine) → Sound n x → (k c : ℕ) → k < 22 → inWords .append (savedOf x) k c ≡ savedOf (withBehind x k c)
   unfolding withBehindIn withBehind
   append-saved x sound k c h =
-      ap (λ (y : Machine). kept (withStoreIn (routerWords (x .router)) k (putStore (sizeIn (x .area)) (storeAt (y .router) k)))
+      ap (λ (y : Machine). kept (withStoreIn (routerWords (x .router)) k (putStore (sizeIn (x .area)) (storeAt (y .router) k) c))
       (putAt (x .area) k (storeAt (y .router) k) c))
       (loads-back x sound)
       ∙ ap (λ (s : List ℕ). kept s (putAt (x .area) k (storeAt (x .router) k) c))
-      (store-saved (x .router) (sound .shape) k (putStore (sizeIn (x .area)) (storeAt (x .router) k)) h)
+      (store-saved (x .router) (sound .shape) k (putStore (sizeIn (x .area)) (storeAt (x .router) k) c) h)
 
   appends : (x : Machine) (w : Words) (k c : ℕ) → k < 22 → InWords x w → InWords (exact .append x k c) (inWords .append w k c)
   appends x w k c h r =

@@ -1,16 +1,16 @@
--- The router's state in its 110 words, and its lent area, as a round sees and changes them in place. What is seen is what
+-- The router's state in its words, and its lent area, as a round sees and changes them in place. What is seen is what
 -- the words load as; what is changed are the words of one port or store.
 -- Assumes nothing.
 use Prim.Native.Nat.{ℕ}
 use mathlib.Core.Path.{_≡_}
-use mathlib.Core.Bool.{Bool, true, false}
+use mathlib.Core.Bool.{Bool, true, false, not}
 use mathlib.Core.List.{List}
 use Rattle.router_ports.specs.Ports.{modeAt, outputAt, storeAt}
 use Rattle.router_ports.specs.Places.{Machine, machine, emptyAt, fullAt, frontAt, putAt}
 use Rattle.router_ports.specs.declared.Mode.{Mode}
 use Rattle.router_ports.specs.declared.Mode.the-variants.{Idle, Waiting, Routed, Spilling}
 use Rattle.router_ports.specs.declared.Output.{Output}
-use Rattle.port_words.specs.RouterWords.{routerOf, routerWords, withModeIn, withOutputIn, withoutFrontIn, withBehindIn}
+use Rattle.router_ports.specs.RouterWords.{routerOf, routerWords, withModeIn, withOutputIn, withoutFrontIn, withBehindIn}
 use Rattle.router_rounds.specs.Acts.{Acts, Tally}
 use Rattle.router_rounds.specs.declared.Totals.{Totals}
 
@@ -36,19 +36,19 @@ inWords =
       setOutput = λ (w : Words) (o : ℕ) (out : Output). kept (withOutputIn (w .state) o out) (w .area);
       dropFront = λ (w : Words) (k : ℕ). kept (withoutFrontIn (w .state) (w .area) k) (w .area);
       append = λ (w : Words) (k n : ℕ).
-          kept (withBehindIn (w .state) (w .area) k) (putAt (w .area) k (storeAt (routerOf (w .state)) k) n);
+          kept (withBehindIn (w .state) (w .area) k n) (putAt (w .area) k (storeAt (routerOf (w .state)) k) n);
     }
 
 -- what a function of rounds has counted, with the words as they stand
 abbrev pub tally : Totals → Words → Tally Words
 tally c w = record { now = w; rounds = c .rounds; moved = c .moved; errors = c .errors; changed = c .changed }
 
--- "the waiting inputs", whatever they want: where there is none, nothing is granted
-abbrev pub isWaiting : Mode → Bool
-isWaiting Idle = false
-isWaiting (Waiting w) = true
-isWaiting (Routed o) = false
-isWaiting Spilling = false
+-- an idle input with an N-Char, or a waiting one: where there is none, parts 1 and 2 change nothing
+abbrev pub stirs : Mode → Bool → Bool
+stirs Idle none = not none
+stirs (Waiting w) none = true
+stirs (Routed o) none = false
+stirs Spilling none = false
 
 -- the words that a state and its area are saved as
 abbrev pub savedOf : Machine → Words

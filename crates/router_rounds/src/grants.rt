@@ -4,16 +4,18 @@ ghost use mathlib.Core.Bool.{not};
 ghost use mathlib.Core.List.{List};
 ghost use Prim.Native.Nat.{ℕ, _<_, _+_, _%_};
 ghost use Rattle.router_rounds.specs.Grants.{isFree, waitsFor, granted, part2};
-ghost use Rattle.router_rounds.specs.InWords.{kept, inWords, tally, isWaiting};
-ghost use Rattle.router_ports.specs.Each.{any};
+ghost use Rattle.router_rounds.specs.InWords.{kept, inWords, tally};
 ghost use Rattle.router_ports.specs.Ports.{wants, modeAt, outputAt};
-ghost use Rattle.port_words.specs.RouterWords.{routerOf};
+ghost use Rattle.router_ports.specs.RouterWords.{routerOf};
 use crate::Totals;
 use crate::counts;
 use router_ports::Mode;
 use router_ports::Output;
 use router_ports::Owner;
+use router_ports::PORTS;
+use router_ports::STORES;
 use router_ports::Wanted;
+use router_ports::Words;
 
 fn wanted(ports: u16, o: usize) -> bool
     requires { ⌜ o < 11 ⌝ }
@@ -34,11 +36,11 @@ fn waits_so(w: Wanted, o: usize, high: bool) -> bool
     }
 }
 
-fn waits_for(state: &[u32; 110], i: usize, o: usize, high: bool) -> bool
+fn waits_for(state: &Words, i: usize, o: usize, high: bool) -> bool
     requires { ⌜ o < 11 ⌝ }
     ensures { λ r. ⌜ r ≡ waitsFor o high (modeAt (routerOf (now (state .entry))) i) ⌝ }
 {
-    let m = port_words::mode_at(state, i);
+    let m = router_ports::mode_at(state, i);
     match m {
         Mode::Idle => false,
         Mode::Waiting(w) => waits_so(w, o, high),
@@ -51,13 +53,13 @@ fn in_turn(last: usize, on: usize) -> usize
     requires { ⌜ on < 100 ⌝ }
     ensures { λ r. ⌜ r ≡ (last + on) % 11 ⌝ }
 {
-    (last % 11 + on) % 11
+    (last % PORTS + on) % PORTS
 }
 
-fn is_owned(state: &[u32; 110], o: usize) -> bool
+fn is_owned(state: &Words, o: usize) -> bool
     ensures { λ r. ⌜ r ≡ not (isFree (outputAt (routerOf (now (state .entry))) o .owner)) ⌝ }
 {
-    let out = port_words::output_at(state, o);
+    let out = router_ports::output_at(state, o);
     let owner = out.owner;
     match owner {
         Owner::Free => false,
@@ -65,17 +67,17 @@ fn is_owned(state: &[u32; 110], o: usize) -> bool
     }
 }
 
-fn last_granted(state: &[u32; 110], o: usize) -> usize
+fn last_granted(state: &Words, o: usize) -> usize
     ensures { λ r. ⌜ r ≡ outputAt (routerOf (now (state .entry))) o .last ⌝ }
 {
-    let out = port_words::output_at(state, o);
+    let out = router_ports::output_at(state, o);
     out.last
 }
 
-fn grant(c: Totals, state: &mut [u32; 110], o: usize, i: usize) -> Totals
+fn grant(c: Totals, state: &mut Words, o: usize, i: usize) -> Totals
     ensures { λ r. ⌜ ((area : List ℕ) → tally r (kept (now (state .exit)) area) ≡ granted inWords (tally c (kept (now (state .entry)) area)) o i) ⌝ }
 {
-    port_words::set_output(
+    router_ports::set_output(
         state,
         o,
         Output {
@@ -83,50 +85,26 @@ fn grant(c: Totals, state: &mut [u32; 110], o: usize, i: usize) -> Totals
             last: i,
         },
     );
-    port_words::set_mode(state, i, Mode::Routed(o));
+    router_ports::set_mode(state, i, Mode::Routed(o));
     counts::mark(c)
 }
 
-fn is_waiting(m: Mode) -> bool
-    ensures { λ r. ⌜ r ≡ isWaiting m ⌝ }
-{
-    match m {
-        Mode::Idle => false,
-        Mode::Waiting(_) => true,
-        Mode::Routed(_) => false,
-        Mode::Spilling => false,
-    }
-}
-
-fn some_wait(state: &[u32; 110]) -> bool
-    ensures { λ r. ⌜ r ≡ any (λ i. isWaiting (modeAt (routerOf (now (state .entry))) i)) 0 11 ⌝ }
-{
-    let mut i = 0;
-    while i < 11 {
-        if is_waiting(port_words::mode_at(state, i)) {
-            return true;
-        }
-        i = i + 1;
-    }
-    false
-}
-
 // Candidates 0 to 10 are the inputs in cyclic order at high priority, 11 to 21 the same at low.
-fn grant_each(c: Totals, state: &mut [u32; 110]) -> Totals
+pub(crate) fn grant_all(c: Totals, state: &mut Words) -> Totals
     ensures { λ r. ⌜ ((area : List ℕ) → tally r (kept (now (state .exit)) area) ≡ part2 inWords (tally c (kept (now (state .entry)) area))) ⌝ }
 {
     let mut q = c;
     let mut o = 0;
-    'outputs: while o < 11 {
+    'outputs: while o < PORTS {
         if is_owned(state, o) {
             o = o + 1;
             continue 'outputs;
         }
         let last = last_granted(state, o);
         let mut k = 0;
-        while k < 22 {
+        while k < STORES {
             let i = in_turn(last, k + 1);
-            if waits_for(state, i, o, k < 11) {
+            if waits_for(state, i, o, k < PORTS) {
                 q = grant(q, state, o, i);
                 o = o + 1;
                 continue 'outputs;
@@ -136,15 +114,4 @@ fn grant_each(c: Totals, state: &mut [u32; 110]) -> Totals
         o = o + 1;
     }
     q
-}
-
-// Where no input waits, no output is looked at.
-pub(crate) fn grant_all(c: Totals, state: &mut [u32; 110]) -> Totals
-    ensures { λ r. ⌜ ((area : List ℕ) → tally r (kept (now (state .exit)) area) ≡ part2 inWords (tally c (kept (now (state .entry)) area))) ⌝ }
-{
-    if some_wait(state) {
-        grant_each(c, state)
-    } else {
-        c
-    }
 }

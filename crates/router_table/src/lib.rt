@@ -6,6 +6,13 @@ ghost use Rattle.router_table.specs.Rows.{deletes, isHigh, isInvalid};
 ghost use Rattle.router_table.specs.Headings.{toPort, byRow, rowHeading, addressHeading, heading};
 ghost use Rattle.router_table.specs.Headings.{headingNumber, noDirection, headingValues};
 
+pub const ROWS: usize = 256;
+
+pub type Table = [u32; ROWS];
+
+// What a row is that requests no port: invalid.
+const INVALID: u32 = 0x80000000;
+
 // Wanted ports, bit p for port p, at which priority, and whether the header is deleted.
 pub struct Direction {
     pub ports: u16,
@@ -20,10 +27,10 @@ pub enum Heading {
     Ports(Direction),
 }
 
-pub fn fresh() -> [u32; 256]
-    ensures { λ r. ⌜ r ≡ freshTable ⌝ }
+pub fn fresh(table: &mut Table)
+    ensures { λ r. ⌜ now (table .exit) ≡ freshTable ⌝ }
 {
-    [0x80000000; 256]
+    *table = [INVALID; ROWS];
 }
 
 fn requested(row: u32) -> u16
@@ -37,7 +44,7 @@ fn written(value: u32) -> u32
 {
     let ports = requested(value);
     if ports == 0 {
-        0x80000000
+        INVALID
     } else {
         value / 536870912 * 536870912 + (ports as u32)
     }
@@ -50,19 +57,19 @@ pub fn outside_rows(row: usize) -> bool
 }
 
 // The row as a write leaves it: `write(&mut t, 39, 4)` has row 39 request port 2.
-pub fn write(table: &mut [u32; 256], row: usize, value: u32)
+pub fn write(table: &mut Table, row: usize, value: u32)
     ensures { λ r. ⌜ now (table .exit) ≡ withRow (now (table .entry)) row value ⌝ }
 {
-    if row < 256 {
+    if row < ROWS {
         let v = written(value);
         table[row] = v;
     }
 }
 
-pub fn read(table: &[u32; 256], row: usize) -> u32
+pub fn read(table: &Table, row: usize) -> u32
     ensures { λ r. ⌜ r ≡ rowAt (now (table .entry)) row ⌝ }
 {
-    if row < 256 { table[row] } else { 0 }
+    if row < ROWS { table[row] } else { 0 }
 }
 
 fn deletes_header(row: u32) -> bool
@@ -121,7 +128,7 @@ fn row_heading(row: u32) -> Heading
     Heading::Ports(d)
 }
 
-fn address_heading(address: u8, table: &[u32; 256]) -> Heading
+fn address_heading(address: u8, table: &Table) -> Heading
     ensures { λ r. ⌜ r ≡ addressHeading (now (table .entry)) address ⌝ }
 {
     match address {
@@ -138,7 +145,7 @@ fn address_heading(address: u8, table: &[u32; 256]) -> Heading
 }
 
 // An end, an address that leads nowhere, or the ports that the packet wants.
-pub fn heading_of(n: u16, table: &[u32; 256]) -> Heading
+pub fn heading_of(n: u16, table: &Table) -> Heading
     ensures { λ r. ⌜ r ≡ heading (now (table .entry)) n ⌝ }
 {
     if vocabulary::is_end(n) {

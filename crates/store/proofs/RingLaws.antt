@@ -63,19 +63,19 @@ fresh-good size h = good-store size freshStore h (omega arith)
 abbrev longer : Store → Store
 longer s = record { front = s .front; len = s .len + 1 }
 
-module _ (size : ℕ) (s : Store) (good : badStore size s ≡ false) where
-  pub put-good : badStore size (putStore size s) ≡ false
+module _ (size : ℕ) (s : Store) (n : ℕ) (good : badStore size s ≡ false) where
+  pub put-good : badStore size (putStore size s n) ≡ false
   unfolding putStore
   put-good =
       change-good size s good (longer s) (refusesPut size s) λ h.
       let room : s .len < size = leb-false size (s .len) (or-right (badStore size s) (full size s) h) in
       good-store size (longer s) (front-below size s good) (omega arith)
 
-  put-longer : full size s ≡ false → putStore size s ≡ longer s
+  put-longer : full size s ≡ false → putStore size s n ≡ longer s
   unfolding putStore
   put-longer room = rw (good, room)
 
-  pub put-len : full size s ≡ false → putStore size s .len ≡ s .len + 1
+  pub put-len : full size s ≡ false → putStore size s n .len ≡ s .len + 1
   put-len room = ap (λ (t : Store). t .len) (put-longer room)
 
 module _ (places : List ℕ) (s : Store) (n : ℕ) where
@@ -92,7 +92,7 @@ module _ (places : List ℕ) (s : Store) (n : ℕ) where
 
 module _ (places : List ℕ) (s : Store) (n : ℕ) (good : badStore (length places) s ≡ false) where
   pub put-appends : full (length places) s ≡ false →
-      waiting (putPlaces places s n) (putStore (length places) s) ≡ waiting places s ++ readAs n ∷ []
+      waiting (putPlaces places s n) (putStore (length places) s n) ≡ waiting places s ++ readAs n ∷ []
   unfolding standing putPlaces
   put-appends room =
       let f : s .front < length places = front-below (length places) s good in
@@ -100,7 +100,7 @@ module _ (places : List ℕ) (s : Store) (n : ℕ) (good : badStore (length plac
       let behind : ℕ = around (length places) (s .front + s .len) in
       let inside : behind < length places = around-below (length places) (s .front + s .len) (omega arith) in
       let same : length (set places behind n) ≡ length places = length-set places behind n in
-      rw (put-longer (length places) s good room, good, room)
+      rw (put-longer (length places) s n good room, good, room)
       (standing-split (set places behind n) (s .front) (s .len) 1 (omega arith) (omega arith)
       ∙ rw (same, getD-set-same places behind n 0 inside, standing-kept places (s .front) (s .len) behind n f l refl))
 

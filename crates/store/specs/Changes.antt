@@ -19,8 +19,8 @@ abbrev pub refusesPut : ℕ → Store → Bool
 refusesPut size s = badStore size s || full size s
 
 -- one N-Char behind those that wait
-unfoldable pub putStore : ℕ → Store → Store
-putStore size s = pick (refusesPut size s) s (record { front = s .front; len = s .len + 1 })
+unfoldable pub putStore : ℕ → Store → ℕ → Store
+putStore size s n = pick (refusesPut size s) s (record { front = s .front; len = s .len + 1 })
 
 unfoldable pub putPlaces : List ℕ → Store → ℕ → List ℕ
 putPlaces places s n =
@@ -35,6 +35,14 @@ unfoldable pub dropped : ℕ → Store → ℕ → Store
 dropped size s count =
     pick (badStore size s || ltb (s .len) count) s
     (record { front = around size (s .front + count); len = s .len - count })
+
+-- without the first N-Char of these places
+abbrev pub withoutFirst : List ℕ → Store → Store
+withoutFirst places s = dropped (length places) s 1
+
+-- without the N-Chars of these places that were found
+abbrev pub withoutFound : List ℕ → Store → Found → Store
+withoutFound places s f = dropped (length places) s (f .count)
 
 -- how many stand from the front through the first end, and whether there is one
 unfoldable pub foundIn : List ℕ → Found

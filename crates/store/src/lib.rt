@@ -4,8 +4,8 @@ ghost use mathlib.Core.Bool.{false, _||_};
 ghost use lib.ListN.{length};
 ghost use lib.Dec.{ltb};
 ghost use Rattle.store.specs.Ring.{around, waiting, badStore, free, empty, full};
-ghost use Rattle.store.specs.Changes.{freshStore, refusesPut, putStore, putPlaces};
-ghost use Rattle.store.specs.Changes.{frontOf, dropped, foundIn, found};
+ghost use Rattle.store.specs.Changes.{freshStore, refusesPut, putStore, putPlaces, frontOf, dropped};
+ghost use Rattle.store.specs.Changes.{withoutFirst, withoutFound, foundIn, found};
 ghost use Rattle.store.specs.StoreWords.{storeWords, storeOf};
 
 // Where the first waiting N-Char stands, and how many wait.
@@ -88,7 +88,7 @@ fn refuses_put(s: Store, size: usize) -> bool
 
 // One N-Char behind those that wait: `put(fresh(), &mut places, 65)`.
 pub fn put(s: Store, places: &mut [u16], n: u16) -> Store
-    ensures { λ r. ⌜ (r ≡ putStore (length (now (places .entry))) s) × (now (places .exit) ≡ putPlaces (now (places .entry)) s n) ⌝ }
+    ensures { λ r. ⌜ (r ≡ putStore (length (now (places .entry))) s n) × (now (places .exit) ≡ putPlaces (now (places .entry)) s n) ⌝ }
 {
     if refuses_put(s, places.len()) {
         return s;
@@ -122,8 +122,7 @@ fn refuses_drop(s: Store, size: usize, count: usize) -> bool
     if bad(s, size) { true } else { len < count }
 }
 
-// The store without its first `count` N-Chars: `drop_first(s, &places, 1)` takes one.
-pub fn drop_first(s: Store, places: &[u16], count: usize) -> Store
+fn drop_some(s: Store, places: &[u16], count: usize) -> Store
     ensures { λ r. ⌜ r ≡ dropped (length (now (places .entry))) s count ⌝ }
 {
     let size = places.len();
@@ -136,6 +135,20 @@ pub fn drop_first(s: Store, places: &[u16], count: usize) -> Store
         front: round(size, front + count),
         len: len - count,
     }
+}
+
+// The store without its first N-Char: `drop_first(s, &places)` behind `look(s, &places)` takes it.
+pub fn drop_first(s: Store, places: &[u16]) -> Store
+    ensures { λ r. ⌜ r ≡ withoutFirst (now (places .entry)) s ⌝ }
+{
+    drop_some(s, places, 1)
+}
+
+// The store without what was found: `drop_found(s, &places, find_end(s, &places))` discards through the first end.
+pub fn drop_found(s: Store, places: &[u16], f: Found) -> Store
+    ensures { λ r. ⌜ r ≡ withoutFound (now (places .entry)) s f ⌝ }
+{
+    drop_some(s, places, f.count)
 }
 
 fn walk(s: Store, places: &[u16]) -> Found

@@ -1,15 +1,12 @@
--- Two arrays of words are the same where each word is: taken from the first on, as a loop goes.
+-- Two arrays of words are the same where each word is.
 -- Assumes nothing.
-use Prim.Native.Nat.{ℕ, zero, suc, _+_, _≤_, _<_}
+use Prim.Native.Nat.{ℕ, suc}
 use mathlib.Core.Path.{_≡_, refl, sym, ap, _∙_}
 use mathlib.Core.Bool.{Bool, true, false, _&&_, false≢true}
 use mathlib.Core.List.{List, [], _∷_}
-use lib.ListN.{length, getD, drop, drop-of-length-le}
-use lib.Seq.{drop-cons}
+use lib.ListN.{length}
 use lib.Dec.{eqb}
-use native.Mathlib.Omega.{arith}
 use borrow.Author.Tests.{eq-eqb, eqb-true}
-use Rattle.vocabulary.specs.Choice.{pick}
 use Rattle.words.specs.Words.{same}
 
 and-false : (b : Bool) → b && false ≡ false
@@ -22,32 +19,6 @@ same-lengths [] [] n = absurd (n refl)
 same-lengths [] (x ∷ w) n = refl
 same-lengths (x ∷ v) [] n = refl
 same-lengths (x ∷ v) (y ∷ w) n = rw (same-lengths v w (λ e. n (ap suc e))) (and-false (eqb x y))
-
--- what was the same so far, then one more word, then the rest
-regrouped : (good here rest : Bool) → good && (here && rest) ≡ pick here good false && rest
-regrouped true true rest = refl
-regrouped true false rest = refl
-regrouped false true rest = refl
-regrouped false false rest = refl
-
-pub same-next : (v w : List ℕ) (i : ℕ) (good : Bool) → i < length v → i < length w →
-    good && same (drop i v) (drop i w)
-    ≡ pick (eqb (getD v i 0) (getD w i 0)) good false && same (drop (i + 1) v) (drop (i + 1) w)
-unfolding same
-same-next v w i good h k =
-    let one : suc i ≡ i + 1 = omega arith in
-    rw (drop-cons v i 0 h, drop-cons w i 0 k)
-    (regrouped good (eqb (getD v i 0) (getD w i 0)) (same (drop (suc i) v) (drop (suc i) w))
-    ∙ ap (λ (n : ℕ). pick (eqb (getD v i 0) (getD w i 0)) good false && same (drop n v) (drop n w)) one)
-
-and-true : (b : Bool) → b && true ≡ b
-and-true true = refl
-and-true false = refl
-
-pub same-ended : (v w : List ℕ) (i : ℕ) (good : Bool) → length v ≤ i → length w ≤ i →
-    good && same (drop i v) (drop i w) ≡ good
-unfolding same
-same-ended v w i good h k = rw (drop-of-length-le v h, drop-of-length-le w k) (and-true good)
 
 pub same-is : (v w : List ℕ) → same v w ≡ true → v ≡ w
 unfolding same

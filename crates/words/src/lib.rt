@@ -1,9 +1,6 @@
 // Truths, numbers and tokens as words of 32 bits.
 ghost use mathlib.Core.Path.{_≡_};
-ghost use mathlib.Core.Bool.{false};
-ghost use lib.Dec.{eqb};
-ghost use Rattle.vocabulary.specs.Choice.{pick};
-ghost use Rattle.words.specs.Words.{truth, truthWord, byte, narrow, same};
+ghost use Rattle.words.specs.Words.{truth, truthWord, byte, narrow};
 ghost use Rattle.words.specs.Arguments.{fitted, noToken, bare, timeCode, tokenOf};
 use vocabulary::Token;
 
@@ -77,26 +74,4 @@ pub fn token_of(kind: u32, value: u32) -> Token
         4 => time_code(value),
         _ => no_token(),
     }
-}
-
-fn still(good: bool, v: u32, w: u32) -> bool
-    ensures { λ r. ⌜ r ≡ pick (eqb v w) good false ⌝ }
-{
-    if v == w { good } else { false }
-}
-
-// Every word is compared, whatever the first say: a loop without a way out is compiled to vector code.
-pub fn same(a: &[u32], b: &[u32]) -> bool
-    ensures { λ r. ⌜ r ≡ same (now (a .entry)) (now (b .entry)) ⌝ }
-{
-    if a.len() != b.len() {
-        return false;
-    }
-    let mut good = true;
-    let mut i = 0;
-    while i < a.len() {
-        good = still(good, a[i], b[i]);
-        i = i + 1;
-    }
-    good
 }

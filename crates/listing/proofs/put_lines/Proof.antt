@@ -2,44 +2,44 @@
 -- Assumes nothing.
 use borrow.Author.Needs.{needs}
 use borrow.Author.Tests.{lt-ltb, le-ltb}
-use mathlib.Core.Path.{_≡_, refl, sym, ap, _∙_}
+use mathlib.Core.Path.{_≡_, sym, ap, _∙_}
 use mathlib.Core.List.{List}
 use Prim.Native.Nat.{ℕ, _≤_, _<_}
 use native.Mathlib.Nat.{zero-add}
 use native.Mathlib.Omega.{arith}
 use lib.ListN.{length, take}
 use lib.Seq.{length-take-le}
-use Rattle.characters.specs.declared.decoder.Decoder.{Decoder}
-use Rattle.characters.specs.declared.decoder.Decoder.the-variants.{Fresh}
+use Rattle.characters.specs.States.{Fresh}
+use Rattle.characters.specs.DecoderWords.{decoderWords, decoderFrom, decoderOf}
+use Rattle.characters.proofs.DecoderLaws.{keeps-decoders}
 use Rattle.listing.specs.Ascii.{ascii}
 use Rattle.listing.specs.Input.{good, bitsIn}
 use Rattle.listing.specs.Text.{valueLine}
 use Rattle.listing.specs.Listing.{reportLines, lastLine}
-use Rattle.listing.specs.Writing.{Room, Written, moreText, progressed, Listed}
-use Rattle.listing.specs.declared.Progress.{Progress}
+use Rattle.listing.specs.Writing.{Room, Written, Progress, meant, moreText, progressed, Goes}
+use Rattle.listing.specs.declared.Listing.{Listing}
 use Rattle.listing.proofs.InputLaws.{good-in-front}
 use Rattle.listing.proofs.WritingLaws.{room-first, room-second, written-both}
 use Rattle.listing.proofs.put_lines.Statement.{statement}
 use Rattle.listing.proofs.put_lines.Tie as tie
 
-abbrev start : Decoder → Progress
-start d = record { decoder = d; count = 0; at = 0 }
+abbrev first : Listing
+first = record { words = decoderWords Fresh; count = 0; at = 0 }
 
 module _ (input : List ℕ) {end : ℕ} (found : end ≡ length (good input)) where
   before-bad : take end input ≡ good input
   before-bad = rw found (good-in-front input .0)
 
-  room-for-reports : {out : List ℕ} {d : Decoder} → d ≡ Fresh → Room out 0 (reportLines input) →
-      Room out 0 (moreText (start d) (bitsIn (take end input)))
-  unfolding reportLines moreText
+  room-for-reports : {out : List ℕ} {l : Listing} → l ≡ first → Room out 0 (reportLines input) →
+      Room out (l .at) (moreText (meant l) (bitsIn (take end input)))
+  unfolding reportLines moreText decoderOf decoderFrom
   room-for-reports fresh room = rw (fresh, before-bad) room
 
-  reports-written : {out left : List ℕ} {d : Decoder} {done : Progress} → d ≡ Fresh →
-      Listed out (start d) (bitsIn (take end input)) done left →
+  reports-written : {out left : List ℕ} {l done : Listing} → l ≡ first → Goes out l (bitsIn (take end input)) done left →
       Written out 0 (reportLines input) (done .at) left × (done .count ≡ length (bitsIn (good input)))
-  unfolding reportLines moreText progressed
-  reports-written fresh listed =
-      let whole = rw (fresh, before-bad) at listed in (
+  unfolding reportLines moreText progressed decoderOf decoderFrom
+  reports-written fresh goes =
+      let whole = rw (fresh, before-bad) at (goes .listed) in (
         record { behind = ap (λ (p : Progress). p .at) (whole .progress); stands = whole .stands },
         ap (λ (p : Progress). p .count) (whole .progress) ∙ zero-add _,
       )
@@ -62,7 +62,7 @@ reported c =
     let fresh = c .before .before .before in
     let s = fresh .before .before .before .before in
     let found = fresh .before .good-length .ensures in
-    reports-written (s .args .input .now) found (fresh .fresh .ensures) (c .take-bytes .ensures)
+    reports-written (s .args .input .now) found (fresh .start .ensures) (c .take-bytes .ensures)
 
 room-for-last : (c : tie.After-take-bytes) →
     let s = c .before .before .before .before .before .before .before in
@@ -100,9 +100,9 @@ put-lines-spec =
     (λ c κs. let fresh = c .before .before in
     let s = fresh .before .before .before .before in
     let input = s .args .input .now in (
-      room-for-reports input (fresh .before .good-length .ensures) (fresh .fresh .ensures)
+      room-for-reports input (fresh .before .good-length .ensures) (fresh .start .ensures)
           (room-first (reportLines input) (lastLine input) (s .pre)),
-      refl,
+      (ap (λ (l : Listing). l .count) (fresh .start .ensures), rw (fresh .start .ensures) (keeps-decoders .is-decoder Fresh tt)),
     ))
     (λ c. search needs)
     (λ c κs. let tested = c .before .before in rw (bad-here tested) at (room-for-last (tested .before .before .before)))

@@ -2,6 +2,7 @@
 -- Assumes nothing.
 use borrow.Author.Needs.{needs}
 use borrow.Author.Tests.{eq-eqb, ne-eqb}
+use Rattle.listing.specs.Writing.{meant}
 use Rattle.listing.proofs.LineLaws.{nothing-listed}
 use Rattle.listing.proofs.take_byte.Statement.{statement}
 use Rattle.listing.proofs.take_byte.Tie as tie
@@ -18,5 +19,6 @@ take-byte-spec =
     (λ c. search needs)
     (λ c. let tested = c .before .before .before .before in
     rw (ne-eqb _ _ (tested .before .if1 .left), eq-eqb _ _ (tested .if2 .taken)) (c .before .before .take-bit2 .ensures))
-    (λ c. let a = c .before .before .before .args in
-    rw (ne-eqb _ _ (c .before .if1 .left), ne-eqb _ _ (c .if2 .left)) (nothing-listed (a .out .now) (a .p))))
+    (λ c. let s = c .before .before .before in
+    rw (ne-eqb _ _ (c .before .if1 .left), ne-eqb _ _ (c .if2 .left))
+    (record { listed = nothing-listed (s .args .out .now) (meant (s .args .l)); keeps = s .pre .1 .1 })))

@@ -1,16 +1,17 @@
--- `listing::take_bytes` meets its contract. The invariant: what is left, taken from here on, gives what was to be given.
+-- `listing::take_bytes` meets its contract. The invariant: what is left, taken from here on, gives what was to be
+-- given.
 -- Assumes nothing.
 use mathlib.Core.Path.{_≡_, refl, ap, _∙_}
-use mathlib.Core.Bool.{Bool}
+use mathlib.Core.Bool.{Bool, true}
 use mathlib.Core.List.{List, [], _++_}
 use Prim.Native.Nat.{ℕ, _+_, _-_, _≤_, _<_}
 use native.Mathlib.Numerals.{add-one}
 use native.Mathlib.Omega.{arith}
 use lib.ListN.{length, getD, drop, drop-of-length-le}
 use lib.Seq.{sets, drop-cons}
+use Rattle.characters.specs.DecoderWords.{isDecoder}
 use Rattle.listing.specs.Input.{bitOf, bitsIn}
-use Rattle.listing.specs.Writing.{Room, moreText, progressed}
-use Rattle.listing.specs.declared.Progress.{Progress}
+use Rattle.listing.specs.Writing.{Room, Progress, meant, moreText, progressed}
 use Rattle.listing.proofs.WritingLaws.{room-first}
 use Rattle.listing.proofs.LineLaws.{more-of-both, progress-left, text-left, nothing-listed}
 use Rattle.listing.proofs.InputLaws.{bits-few}
@@ -21,8 +22,10 @@ abbrev Inv-loop : tie.InvT-loop
 Inv-loop out₀ bytes now₀ i₀ out now i =
     (i ≤ length bytes)
     × (length out ≡ length out₀)
-    × (progressed now (bitsIn (drop i bytes)) ≡ progressed now₀ (bitsIn bytes))
-    × (sets out (now .at) (moreText now (bitsIn (drop i bytes))) ≡ sets out₀ (now₀ .at) (moreText now₀ (bitsIn bytes)))
+    × (progressed (meant now) (bitsIn (drop i bytes)) ≡ progressed (meant now₀) (bitsIn bytes))
+    × (sets out (now .at) (moreText (meant now) (bitsIn (drop i bytes)))
+    ≡ sets out₀ (now₀ .at) (moreText (meant now₀) (bitsIn bytes)))
+    × (isDecoder (now .words) ≡ true)
 
 abbrev μ-loop : tie.MeasureT-loop
 μ-loop out₀ bytes now₀ i₀ out now i = length bytes - i
@@ -56,7 +59,7 @@ take-bytes-spec =
     (tie.spec
     Inv-loop
     μ-loop
-    (λ c. (omega arith, refl, refl, refl))
+    (λ c. (omega arith, refl, refl, refl, c .before .before .pre .1 .1))
     (λ c. omega arith)
     (λ c κs. let l = c .before .before .before .loop in
     let s = c .before .before .before .before .before .before in
@@ -65,8 +68,10 @@ take-bytes-spec =
     let rest = bitsIn (drop (l .i + 1) bytes) in
     let same = rw (one-byte bytes (l .i) (c .before .before .loop-test .taken)) at (l .inv .2) in
     let few = bits-few bytes in
-    let count = count-here (s .args .p) (l .now) (bitsIn bytes) here rest same in
-    (room-here (s .args .p) (l .now) (bitsIn bytes) here rest same (l .out) (l .inv .1) (s .pre .0), omega (arith, s .pre .1)))
+    let count = count-here (meant (s .args .l)) (meant (l .now)) (bitsIn bytes) here rest same in (
+      room-here (meant (s .args .l)) (meant (l .now)) (bitsIn bytes) here rest same (l .out) (l .inv .1) (s .pre .0),
+      (omega (arith, s .pre .1 .0), l .inv .4),
+    ))
     (λ c. omega arith)
     (λ c. omega arith)
     (λ c. let step = c .before .before in
@@ -78,15 +83,19 @@ take-bytes-spec =
     let e = one-byte bytes (l .i) (step .before .before .before .loop-test .taken) in (
       omega arith,
       step .take-byte .kept .0 ∙ l .inv .1,
-      progress-left here rest (step .take-byte .ensures) ∙ rw (← e) (l .inv .2),
-      text-left here rest (step .take-byte .ensures) ∙ rw (← e) (l .inv .3),
+      progress-left here rest (step .take-byte .ensures .listed) ∙ rw (← e) (l .inv .2),
+      text-left here rest (step .take-byte .ensures .listed) ∙ rw (← e) (l .inv .3),
+      step .take-byte .ensures .keeps,
     ))
     (λ c. c .before .loop .inv .1)
     (λ c. let l = c .before .loop in
     let bytes = c .before .before .before .before .args .bytes .now in
     let none = no-bytes bytes (l .i) (c .loop-test .left) in
-    let still = nothing-listed (l .out) (l .now) in
+    let still = nothing-listed (l .out) (meant (l .now)) in
     record {
-      progress = still .progress ∙ rw none at (l .inv .2);
-      stands = still .stands ∙ rw none at (l .inv .3);
+      listed = record {
+        progress = still .progress ∙ rw none at (l .inv .2);
+        stands = still .stands ∙ rw none at (l .inv .3);
+      };
+      keeps = l .inv .4;
     }))

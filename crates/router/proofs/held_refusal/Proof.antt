@@ -1,7 +1,8 @@
 -- `router::held_refusal` meets its contract.
 -- Assumes nothing.
 use borrow.Author.Needs.{needs}
-use mathlib.Core.Path.{sym, _∙_}
+use mathlib.Core.Path.{_∙_}
+use Rattle.router.proofs.RefusalLaws.{state-first}
 use Rattle.router.proofs.held_refusal.Statement.{statement}
 use Rattle.router.proofs.held_refusal.Tie as tie
 
@@ -12,4 +13,4 @@ held-refusal-spec =
     (λ c κs. search needs)
     (λ c κs. search needs)
     (λ c κs. search needs)
-    (λ c. c .refuse2 .ensures ∙ sym (rw (← c .before .before .refuse .ensures, ← c .before .bad-ports .ensures))))
+    (λ c. c .refuse2 .ensures ∙ rw (c .before .bad-state .ensures, c .before .before .refuse .ensures) (state-first (c .before .before .before .args .words .now) _)))

@@ -1,7 +1,8 @@
 -- `router::lent_refusal` meets its contract.
 -- Assumes nothing.
 use borrow.Author.Needs.{needs}
-use mathlib.Core.Path.{sym, _∙_}
+use mathlib.Core.Path.{_∙_}
+use Rattle.router.proofs.RefusalLaws.{state-first}
 use Rattle.router.proofs.lent_refusal.Statement.{statement}
 use Rattle.router.proofs.lent_refusal.Tie as tie
 
@@ -12,7 +13,7 @@ lent-refusal-spec =
     (λ c κs. search needs)
     (λ c κs. search needs)
     (λ c κs. search needs)
-    (λ c κs. search needs)
-    (λ c κs. search needs)
-    (λ c κs. search needs)
-    (λ c. c .refuse3 .ensures ∙ sym (rw (← c .before .before .before .before .before .bad-stores .ensures, ← c .before .before .before .before .refuse .ensures, ← c .before .before .before .bad-area .ensures, ← c .before .before .refuse2 .ensures, ← c .before .bad-ports .ensures))))
+    (λ c.
+    let sized = c .before .before in
+    c .refuse .ensures
+    ∙ rw (c .before .bad-state .ensures, sized .sized-refusal .ensures) (state-first (sized .before .before .args .words .now) _)))

@@ -15,5 +15,5 @@ nothing-out-spec =
     (tie.spec
     (λ c. search needs)
     (λ c κs. search needs)
-    (λ c. rw (le-ltb (11 + c .before .args .port) 22 (omega arith)))
-    (λ c. search needs))
+    (λ c. search needs)
+    (λ c. rw (le-ltb (11 + c .before .args .port) 22 (omega arith))))

@@ -1,7 +1,7 @@
 -- `router::put_refusal` meets its contract.
 -- Assumes nothing.
 use borrow.Author.Needs.{needs}
-use mathlib.Core.Path.{sym, _∙_}
+use mathlib.Core.Path.{_∙_}
 use Rattle.router.proofs.put_refusal.Statement.{statement}
 use Rattle.router.proofs.put_refusal.Tie as tie
 
@@ -15,4 +15,7 @@ put-refusal-spec =
     (λ c κs. search needs)
     (λ c κs. search needs)
     (λ c κs. search needs)
-    (λ c. c .lent-refusal .ensures ∙ sym (rw (← c .before .before .before .before .before .full-at .ensures, ← c .before .before .before .before .refuse .ensures, ← c .before .before .before .above-eep .ensures, ← c .before .before .refuse2 .ensures, ← c .before .refuse3 .ensures))))
+    (λ c.
+    let char = c .before .before .before in
+    c .lent-refusal .ensures
+    ∙ rw (c .before .refuse3 .ensures, c .before .before .refuse2 .ensures, char .above-eep .ensures, char .before .refuse .ensures, char .before .before .full-at .ensures)))

@@ -1,7 +1,8 @@
 -- `router::row_refusal` meets its contract.
 -- Assumes nothing.
 use borrow.Author.Needs.{needs}
-use mathlib.Core.Path.{sym, _∙_}
+use mathlib.Core.Path.{_∙_}
+use Rattle.router.proofs.RefusalLaws.{state-first}
 use Rattle.router.proofs.row_refusal.Statement.{statement}
 use Rattle.router.proofs.row_refusal.Tie as tie
 
@@ -13,4 +14,6 @@ row-refusal-spec =
     (λ c κs. search needs)
     (λ c κs. search needs)
     (λ c κs. search needs)
-    (λ c. c .refuse2 .ensures ∙ sym (rw (← c .before .before .before .outside-rows .ensures, ← c .before .before .refuse .ensures, ← c .before .bad-ports .ensures))))
+    (λ c.
+    c .refuse2 .ensures
+    ∙ rw (c .before .bad-state .ensures, c .before .before .refuse .ensures, c .before .before .before .outside-rows .ensures) (state-first (c .before .before .before .before .args .words .now) _)))

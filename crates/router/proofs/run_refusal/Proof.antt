@@ -1,7 +1,7 @@
 -- `router::run_refusal` meets its contract.
 -- Assumes nothing.
 use borrow.Author.Needs.{needs}
-use mathlib.Core.Path.{sym, _∙_}
+use mathlib.Core.Path.{_∙_}
 use Rattle.router.proofs.run_refusal.Statement.{statement}
 use Rattle.router.proofs.run_refusal.Tie as tie
 
@@ -11,4 +11,4 @@ run-refusal-spec =
     (tie.spec
     (λ c κs. search needs)
     (λ c κs. search needs)
-    (λ c. c .lent-refusal .ensures ∙ sym (rw (← c .before .refuse .ensures))))
+    (λ c. c .lent-refusal .ensures ∙ rw (c .before .refuse .ensures)))

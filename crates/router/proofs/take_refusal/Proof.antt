@@ -1,7 +1,7 @@
 -- `router::take_refusal` meets its contract.
 -- Assumes nothing.
 use borrow.Author.Needs.{needs}
-use mathlib.Core.Path.{sym, _∙_}
+use mathlib.Core.Path.{_∙_}
 use Rattle.router.proofs.take_refusal.Statement.{statement}
 use Rattle.router.proofs.take_refusal.Tie as tie
 
@@ -13,4 +13,6 @@ take-refusal-spec =
     (λ c κs. search needs)
     (λ c κs. search needs)
     (λ c κs. search needs)
-    (λ c. c .lent-refusal .ensures ∙ sym (rw (← c .before .before .before .nothing-out .ensures, ← c .before .before .refuse .ensures, ← c .before .refuse2 .ensures))))
+    (λ c.
+    c .lent-refusal .ensures
+    ∙ rw (c .before .refuse2 .ensures, c .before .before .refuse .ensures, c .before .before .before .nothing-out .ensures)))

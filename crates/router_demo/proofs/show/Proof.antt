@@ -7,10 +7,10 @@ use Rattle.router_demo.proofs.show.Statement.{statement}
 use Rattle.router_demo.proofs.show.Tie as tie
 
 abbrev Inv-loop : tie.InvT-loop
-Inv-loop s area p₀ p = p ≤ 11
+Inv-loop area copy₀ p₀ copy p = p ≤ 11
 
 abbrev μ-loop : tie.MeasureT-loop
-μ-loop s area p₀ p = 11 - p
+μ-loop area copy₀ p₀ copy p = 11 - p
 
 pub show-spec : {M : Type 1} → statement M
 show-spec =

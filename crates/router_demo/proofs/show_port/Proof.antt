@@ -7,10 +7,10 @@ use Rattle.router_demo.proofs.show_port.Statement.{statement}
 use Rattle.router_demo.proofs.show_port.Tie as tie
 
 abbrev Inv-loop : tie.InvT-loop
-Inv-loop area port q₀ k₀ q k = k ≤ 9
+Inv-loop area port words₀ k₀ words k = k ≤ 9
 
 abbrev μ-loop : tie.MeasureT-loop
-μ-loop area port q₀ k₀ q k = 9 - k
+μ-loop area port words₀ k₀ words k = 9 - k
 
 pub show-port-spec : {M : Type 1} → statement M
 show-port-spec =
@@ -20,6 +20,8 @@ show-port-spec =
     μ-loop
     (λ c. omega arith)
     (λ c κs. search needs)
+    (λ c κs. search needs)
+    (λ c. search needs)
     (λ c κs. search needs)
     (λ c. omega arith)
     (λ c. omega arith)

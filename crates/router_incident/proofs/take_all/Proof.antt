@@ -7,10 +7,10 @@ use Rattle.router_incident.proofs.take_all.Statement.{statement}
 use Rattle.router_incident.proofs.take_all.Tie as tie
 
 abbrev Inv-loop : tie.InvT-loop
-Inv-loop area q₀ k₀ q k = k ≤ 9
+Inv-loop area words₀ k₀ words k = k ≤ 9
 
 abbrev μ-loop : tie.MeasureT-loop
-μ-loop area q₀ k₀ q k = 9 - k
+μ-loop area words₀ k₀ words k = 9 - k
 
 pub take-all-spec : {M : Type 1} → statement M
 take-all-spec =
@@ -20,6 +20,7 @@ take-all-spec =
     μ-loop
     (λ c. omega arith)
     (λ c κs. search needs)
+    (λ c. search needs)
     (λ c κs. search needs)
     (λ c. omega arith)
     (λ c. omega arith)

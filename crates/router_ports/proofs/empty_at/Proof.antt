@@ -1,7 +1,7 @@
 -- `router_ports::empty_at` meets its contract.
 -- Assumes nothing.
 use borrow.Author.Needs.{needs}
-use mathlib.Core.Path.{sym, _∙_}
+use mathlib.Core.Path.{_∙_}
 use Rattle.router_ports.proofs.empty_at.Statement.{statement}
 use Rattle.router_ports.proofs.empty_at.Tie as tie
 
@@ -11,4 +11,4 @@ empty-at-spec =
     (tie.spec
     (λ c κs. search needs)
     (λ c κs. search needs)
-    (λ c. c .is-empty .ensures ∙ sym (rw (← c .before .store-at .ensures))))
+    (λ c. c .is-empty .ensures ∙ rw (c .before .store-at .ensures)))

@@ -22,8 +22,10 @@ put-of-spec =
     (λ c. let a = c .before .before .args in omega (arith, part-ends (a .k) (length (a .area .now)) (c .if1 .taken)))
     (λ c κs. search needs)
     (λ c. search needs)
-    (λ c. let a = c .before .before .before .before .before .before .args in
-    let inside = c .before .before .before .before .if1 .taken in
+    (λ c.
+    let tested = c .before .before .before .before in
+    let a = tested .before .before .args in
+    let inside = tested .if1 .taken in
     let size = part-size (a .k) (length (a .area .now) / 22) in (
       c .before .before .put .ensures .0 ∙ rw (size, places-length (a .area .now) (a .k) inside, lt-ltb _ _ inside),
       rw (c .before .before .put .ensures .1, size, lt-ltb _ _ inside),

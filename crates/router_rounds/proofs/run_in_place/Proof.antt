@@ -4,7 +4,7 @@
 use borrow.Author.Needs.{needs}
 use mathlib.Core.Path.{_≡_, refl, sym, ap, _∙_}
 use mathlib.Core.Bool.{Bool}
-use Prim.Native.Nat.{ℕ, _+_, _*_, _-_, _≤_}
+use Prim.Native.Nat.{ℕ, _+_, _*_, _-_, _^_, _≤_, _<_}
 use native.Mathlib.Omega.{arith}
 use lib.ListN.{length}
 use Rattle.router_rounds.specs.Acts.{Tally}
@@ -54,19 +54,44 @@ starts c =
 
 goes-on : tie.Need-loop-again Inv-loop μ-loop
 goes-on c =
-    let a = c .before .before .before .before .before .before .before .before .before .before .args in
-    let l = c .before .before .before .before .before .before .before .loop in
-    let one = c .before .before .before .one-round in
+    let one = c .before .before .before in
+    let test = one .before .before .before in
+    let l = test .before .loop in
+    let a = test .before .before .before .before .args in
     let t : Tally Words = tally (l .q) (kept (l .state) (l .area)) in
-    let e = one .ensures in
+    let e = one .one-round .ensures in
     let adds = round-adds inWords (a .table .now) t in (
       omega (arith, ap counted e, adds .rounds, round-counts-one t),
       omega (arith, ap moved e, adds .moved, round-keeps-moved t),
       omega (arith, ap errors e, adds .errors, round-keeps-errors t),
-      one .kept .1 .1 .0 ∙ l .inv .3,
+      one .one-round .kept .1 .1 .0 ∙ l .inv .3,
       l .inv .4
-          ∙ runs-on inWords (a .table .now) (l .left) t (c .before .before .before .before .before .before .loop-test .taken) (sym (ap changed e) ∙ c .if1 .taken)
+          ∙ runs-on inWords (a .table .now) (l .left) t (test .loop-test .taken) (sym (ap changed e) ∙ c .if1 .taken)
           ∙ ap (runs inWords (a .table .now) (l .left - 1)) (sym e),
+    )
+
+-- the last round changed nothing
+stops-here : tie.Need-returns Inv-loop μ-loop
+stops-here c =
+    let one = c .before .before .before in
+    let test = one .before .before .before in
+    let l = test .before .loop in
+    let begun = test .before .before in
+    let start = begun .before .before in
+    let a = start .args in
+    let t : Tally Words = tally (l .q) (kept (l .state) (l .area)) in
+    let e = one .one-round .ensures in
+    let adds = round-adds inWords (a .table .now) t in
+    let few : a .limit < 2 ^ 16 = omega (arith, start .fits .limit) in (
+      e
+          ∙ sym (ap (runs inWords (a .table .now) (a .limit)) (sym (begun .begin .ensures (kept (a .state .now) (a .area .now))))
+          ∙ l .inv .4
+          ∙ stops inWords (a .table .now) (l .left) t (test .loop-test .taken) (sym (ap changed e) ∙ c .if1 .left)),
+      (
+        omega (arith, ap counted e, adds .rounds, round-counts-one t, l .inv .0, few),
+        omega (arith, ap moved e, adds .moved, round-keeps-moved t, l .inv .1, few),
+        omega (arith, ap errors e, adds .errors, round-keeps-errors t, l .inv .2, few),
+      ),
     )
 
 pub run-in-place-spec : {M : Type 1} → statement M
@@ -81,18 +106,19 @@ run-in-place-spec =
     (λ c. omega arith)
     (λ c. omega arith)
     goes-on
-    (λ c. c .before .before .before .one-round .kept .1 .1 .0 ∙ c .before .before .before .before .before .before .before .loop .inv .3)
-    (λ c. let a = c .before .before .before .before .before .before .before .before .before .before .args in
-    let l = c .before .before .before .before .before .before .before .loop in
-    let e = c .before .before .before .one-round .ensures in
-    e
-    ∙ sym (ap (runs inWords (a .table .now) (a .limit)) (sym (c .before .before .before .before .before .before .before .before .begin .ensures (kept (a .state .now) (a .area .now))))
-    ∙ l .inv .4
-    ∙ stops inWords (a .table .now) (l .left) (tally (l .q) (kept (l .state) (l .area))) (c .before .before .before .before .before .before .loop-test .taken)
-    (sym (ap changed e) ∙ c .if1 .left)))
+    (λ c.
+    let one = c .before .before .before in
+    one .one-round .kept .1 .1 .0 ∙ one .before .before .before .before .loop .inv .3)
+    stops-here
     (λ c. c .before .loop .inv .3)
-    (λ c. let a = c .before .before .before .before .args in
+    (λ c.
     let l = c .before .loop in
-    sym (ap (runs inWords (a .table .now) (a .limit)) (sym (c .before .before .begin .ensures (kept (a .state .now) (a .area .now))))
-    ∙ l .inv .4
-    ∙ ends inWords (a .table .now) (l .left) (tally (l .q) (kept (l .state) (l .area))) (c .loop-test .left))))
+    let begun = c .before .before in
+    let start = begun .before .before in
+    let a = start .args in
+    let few : a .limit < 2 ^ 16 = omega (arith, start .fits .limit) in (
+      sym (ap (runs inWords (a .table .now) (a .limit)) (sym (begun .begin .ensures (kept (a .state .now) (a .area .now))))
+          ∙ l .inv .4
+          ∙ ends inWords (a .table .now) (l .left) (tally (l .q) (kept (l .state) (l .area))) (c .loop-test .left)),
+      (omega (arith, l .inv .0, few), omega (arith, l .inv .1, few), omega (arith, l .inv .2, few)),
+    )))

@@ -1,37 +1,76 @@
--- `link::calls::tick` meets its contract.
+-- `link::calls::tick` meets its contract: the timer counts, then the end settles.
 -- Assumes nothing.
-use lib.ListN.{length}
-use denote.Ref.{now}
 use borrow.Author.Needs.{needs}
-use native.Mathlib.Omega.{arith}
-use Rattle.link.proofs.RecordLaws.{timer-small, both-record}
-use Rattle.link.specs.Calls.{accepted, refused}
-use mathlib.Core.Path.{sym, ap, _∙_}
-use borrow.Author.Tests.{eq-eqb, ne-eqb}
-use Rattle.link.specs.Calls.{tickOutcome}
+use mathlib.Core.Path.{sym, _∙_}
+use lib.ListN.{length}
+use Rattle.link.specs.declared.Event.the-variants.{Quiet}
+use Rattle.link.specs.Received.{counted}
+use Rattle.link.specs.Recovery.{settles}
+use Rattle.link.specs.Calls.{tickOutcome, withLink}
+use Rattle.link.specs.LinkWords.{linkOf}
+use Rattle.link.specs.LinkCalls.{tickLeft, endOf}
+use Rattle.link.proofs.LinkLaws.{state-small}
+use Rattle.link.proofs.RefusedLaws as refused
+use Rattle.link.proofs.CallLaws.{both-of, accepted-left, refused-left}
 use Rattle.link.proofs.calls.tick.Statement.{statement}
 use Rattle.link.proofs.calls.tick.Tie as tie
 
 pub tick-spec : {M : Type 1} → statement M
-unfolding tickOutcome accepted refused
+unfolding tickLeft tickOutcome endOf
 tick-spec =
     tie.close
     (tie.spec
     (λ c κs. search needs)
+    (λ c κs. search needs)
+    (λ c κs. search needs)
+    (λ c κs. search needs)
+    (λ c κs. search needs)
     (λ c κs.
-    let a = c .before .before .before .before .args in
-    omega (arith, timer-small (a .l) (both-record (length (now (a .rx))) (length (now (a .tx))) (a .l) (sym (c .before .both .ensures) ∙ c .if1 .taken))))
-    (λ c κs. search needs)
-    (λ c κs. search needs)
-    (λ c κs. search needs)
+    let t = c .before .before in
+    let r = t .before .before .before .before in
+    let n = r .before .before in
+    let a = n .before .before .before .before .before .args in
+    let number = t .lent .ensures
+    ∙ both-of (a .words .now) (length (a .rx .now)) (length (a .tx .now)) (n .no-link .ensures) (r .bad-record .ensures)
+    (t .before .before .before .bad-sizes .ensures) (t .before .bad-stores .ensures) in
+    refused.both (a .words .now) (length (a .rx .now)) (length (a .tx .now)) (sym number ∙ c .before .if1 .taken) .0 .timer)
+    (λ c κs.
+    let k = c .before .before in
+    let t = k .before .before .before in
+    let r = t .before .before .before .before in
+    let n = r .before .before in
+    let a = n .before .before .before .before .before .args in
+    let number = t .lent .ensures
+    ∙ both-of (a .words .now) (length (a .rx .now)) (length (a .tx .now)) (n .no-link .ensures) (r .bad-record .ensures)
+    (t .before .before .before .bad-sizes .ensures) (t .before .bad-stores .ensures) in
+    let passed = refused.both (a .words .now) (length (a .rx .now)) (length (a .tx .now)) (sym number ∙ k .before .before .if1 .taken) in
+    state-small _ (counted (linkOf (a .words .now))) (k .count .ensures (linkOf (a .words .now)) (passed .0 .own)))
+    (λ c. search needs)
     (λ c. search needs)
     (λ c.
-    rw (c .answer .ensures)
-    (ap accepted (c .before .before .before .settle .ensures)
-    ∙ rw (c .before .before .before .before .before .count .ensures)
-    (sym
-    (rw (
-      ← c .before .before .before .before .before .before .before .both .ensures,
-      eq-eqb _ _ (c .before .before .before .before .before .before .if1 .taken),
-    )))))
-    (λ c. rw (c .refused .ensures) (sym (rw (← c .before .before .both .ensures, ne-eqb _ _ (c .before .if1 .left))))))
+    let s = c .before .before .before in
+    let k = s .before .before .before in
+    let t = k .before .before .before in
+    let r = t .before .before .before .before in
+    let n = r .before .before in
+    let a = n .before .before .before .before .before .args in
+    let number = t .lent .ensures
+    ∙ both-of (a .words .now) (length (a .rx .now)) (length (a .tx .now)) (n .no-link .ensures) (r .bad-record .ensures)
+    (t .before .before .before .bad-sizes .ensures) (t .before .bad-stores .ensures) in
+    let passed = refused.both (a .words .now) (length (a .rx .now)) (length (a .tx .now)) (sym number ∙ k .before .before .if1 .taken) in
+    let l = counted (linkOf (a .words .now)) in
+    let left = s .settle .ensures (passed .1) (passed .2) l (k .count .ensures (linkOf (a .words .now)) (passed .0 .own)) in
+    rw (left .0, left .1, left .2)
+    (sym (accepted-left (a .words .now) (a .rx .now) (a .tx .now)
+    (settles Quiet (withLink (endOf (a .words .now) (a .rx .now) (a .tx .now)) l)) (passed .0 .is-link) (passed .0 .passes))))
+    (λ c.
+    let t = c .before .before in
+    let r = t .before .before .before .before in
+    let n = r .before .before in
+    let a = n .before .before .before .before .before .args in
+    let number = t .lent .ensures
+    ∙ both-of (a .words .now) (length (a .rx .now)) (length (a .tx .now)) (n .no-link .ensures) (r .bad-record .ensures)
+    (t .before .before .before .bad-sizes .ensures) (t .before .bad-stores .ensures) in
+    rw number (sym (refused-left (a .words .now) (a .rx .now) (a .tx .now)
+    (settles Quiet (withLink (endOf (a .words .now) (a .rx .now) (a .tx .now)) (counted (linkOf (a .words .now)))))
+    (λ z. c .before .if1 .left (number ∙ z))))))

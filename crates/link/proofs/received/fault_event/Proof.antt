@@ -9,5 +9,5 @@ fault-event-spec =
     tie.close
     (tie.spec
     (λ c κs. search needs)
-    (λ c. rw (← c .before .ignores-fault .ensures, c .if1 .taken))
-    (λ c. rw (← c .before .ignores-fault .ensures, c .if1 .left)))
+    (λ c l e. rw (← c .before .ignores-fault .ensures l e, c .if1 .taken))
+    (λ c l e. rw (← c .before .ignores-fault .ensures l e, c .if1 .left)))

@@ -1,13 +1,13 @@
 -- `link::received::got_time_code` meets its contract.
 -- Assumes nothing.
 use borrow.Author.Needs.{needs}
-use mathlib.Core.Path.{sym, _∙_}
-use Rattle.link.specs.Received.{timeCodeEffect}
+use Rattle.link.specs.Received.{effect, timeCodeEffect}
+use Rattle.link.specs.InPlace.{heardOf}
 use Rattle.link.proofs.received.got_time_code.Statement.{statement}
 use Rattle.link.proofs.received.got_time_code.Tie as tie
 
 pub got-time-code-spec : {M : Type 1} → statement M
-unfolding timeCodeEffect
+unfolding timeCodeEffect effect heardOf
 got-time-code-spec =
     tie.close
     (tie.spec
@@ -15,5 +15,7 @@ got-time-code-spec =
     (λ c κs. search needs)
     (λ c κs. search needs)
     (λ c κs. search needs)
-    (λ c. c .effect-of .ensures ∙ sym (rw (← c .before .before .before .in-state .ensures, c .before .before .if1 .taken, ← c .before .after .ensures)))
-    (λ c. c .effect-of2 .ensures ∙ sym (rw (← c .before .before .in-state .ensures, c .before .if1 .left))))
+    (λ c l e.
+    let b = c .before .before in
+    rw (← b .before .is-in .ensures l e, b .if1 .taken, ← c .before .after .ensures) (c .heard .ensures))
+    (λ c l e. rw (← c .before .before .is-in .ensures l e, c .before .if1 .left) (c .heard2 .ensures)))

@@ -1,7 +1,7 @@
 -- `link::received::takes_fct` meets its contract.
 -- Assumes nothing.
 use borrow.Author.Needs.{needs}
-use mathlib.Core.Path.{sym, _∙_}
+use mathlib.Core.Path.{_∙_}
 use Rattle.link.proofs.received.takes_fct.Statement.{statement}
 use Rattle.link.proofs.received.takes_fct.Tie as tie
 
@@ -11,5 +11,5 @@ takes-fct-spec =
     (tie.spec
     (λ c κs. search needs)
     (λ c κs. search needs)
-    (λ c. rw (← c .before .in-state .ensures, c .if1 .taken))
-    (λ c. c .in-state2 .ensures ∙ sym (rw (← c .before .before .in-state .ensures, c .before .if1 .left))))
+    (λ c l e. rw (← c .before .is-in .ensures l e, c .if1 .taken))
+    (λ c l e. c .is-in2 .ensures l e ∙ rw (← c .before .before .is-in .ensures l e, c .before .if1 .left)))

@@ -1,7 +1,7 @@
--- `link::refusals::bad_record` meets its contract.
+-- `link::refusals::bad_record` meets its contract: each branch knows the state's number.
 -- Assumes nothing.
 use borrow.Author.Needs.{needs}
-use mathlib.Core.Path.{sym, _∙_}
+use mathlib.Core.Path.{refl}
 use Rattle.link.proofs.refusals.bad_record.Statement.{statement}
 use Rattle.link.proofs.refusals.bad_record.Tie as tie
 
@@ -9,9 +9,10 @@ pub bad-record-spec : {M : Type 1} → statement M
 bad-record-spec =
     tie.close
     (tie.spec
+    (λ c. search needs)
     (λ c κs. search needs)
     (λ c κs. search needs)
     (λ c κs. search needs)
-    (λ c κs. search needs)
-    (λ c κs. search needs)
-    (λ c. c .or2 .ensures ∙ sym (rw (← c .before .before .before .before .bad-held .ensures, ← c .before .before .before .bad-given .ensures, ← c .before .before .or .ensures, ← c .before .bad-timer .ensures))))
+    (λ c. c .bad-in .ensures (c .before .match .keys1))
+    (λ c. c .bad-in2 .ensures (c .before .match .keys2))
+    (λ c. c .bad-in3 .ensures refl))

@@ -1,7 +1,6 @@
 -- `link::send::choose` meets its contract.
 -- Assumes nothing.
 use borrow.Author.Needs.{needs}
-use mathlib.Core.Path.{sym}
 use Rattle.link.proofs.send.choose.Statement.{statement}
 use Rattle.link.proofs.send.choose.Tie as tie
 
@@ -9,6 +8,7 @@ pub choose-spec : {M : Type 1} → statement M
 choose-spec =
     tie.close
     (tie.spec
+    (λ c κs. search needs)
     (λ c. search needs)
     (λ c. search needs)
     (λ c. search needs)
@@ -18,9 +18,16 @@ choose-spec =
     (λ c κs. search needs)
     (λ c. search needs)
     (λ c κs. search needs)
-    (λ c. rw (c .enum-told .given .1))
-    (λ c. rw (c .enum-told2 .given .1))
-    (λ c. rw (c .enum-told3 .given .1))
-    (λ c. rw (c .enum-told4 .given .1))
-    (λ c. rw (c .fct-or-null .ensures, c .before .grants-fct .ensures) (sym (rw (c .before .before .enum-told5 .given .1))))
-    (λ c. rw (c .choose-with .ensures) (sym (rw (c .before .enum-told6 .given .1)))))
+    (λ c l e g. rw (← c .before .before .state-in .ensures l e, c .enum-told .given .1))
+    (λ c l e g. rw (← c .before .before .state-in .ensures l e, c .enum-told2 .given .1))
+    (λ c l e g. rw (← c .before .before .state-in .ensures l e, c .enum-told3 .given .1))
+    (λ c l e g. rw (← c .before .before .state-in .ensures l e, c .enum-told4 .given .1))
+    (λ c l e g.
+    rw (
+      c .fct-or-null .ensures,
+      c .before .grants-fct .ensures l e g,
+      ← c .before .before .before .before .state-in .ensures l e,
+      c .before .before .enum-told5 .given .1,
+    ))
+    (λ c l e g.
+    rw (c .choose-with .ensures l e g, ← c .before .before .before .state-in .ensures l e, c .before .enum-told6 .given .1)))

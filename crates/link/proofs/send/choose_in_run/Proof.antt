@@ -9,8 +9,19 @@ choose-in-run-spec =
     tie.close
     (tie.spec
     (λ c κs. search needs)
-    (λ c. rw (← c .before .grants-fct .ensures, c .if1 .taken))
+    (λ c l e g. rw (← c .before .grants-fct .ensures l e g, c .if1 .taken))
     (λ c κs. search needs)
     (λ c κs. search needs)
-    (λ c. rw (← c .before .before .before .before .before .grants-fct .ensures, c .before .before .before .before .if1 .left, ← c .before .before .has-n-char .ensures, c .before .if2 .taken, c .look .ensures))
-    (λ c. rw (← c .before .before .before .before .grants-fct .ensures, c .before .before .before .if1 .left, ← c .before .has-n-char .ensures, c .if2 .left)))
+    (λ c κs. search needs)
+    (λ c l e g.
+    rw (
+      c .look .ensures,
+      c .before .tx-in .ensures .0 l e,
+      ← c .before .before .before .before .before .grants-fct .ensures l e g,
+      c .before .before .before .before .if1 .left,
+      ← c .before .before .before .has-n-char .ensures l e g,
+      c .before .before .if2 .taken,
+    ))
+    (λ c l e g.
+    let b = c .before .before in
+    rw (← b .before .grants-fct .ensures l e g, b .if1 .left, ← c .before .has-n-char .ensures l e g, c .if2 .left)))

@@ -1,7 +1,6 @@
 -- `link::send::grants_fct` meets its contract.
 -- Assumes nothing.
 use borrow.Author.Needs.{needs}
-use mathlib.Core.Path.{sym, _∙_}
 use Rattle.link.proofs.send.grants_fct.Statement.{statement}
 use Rattle.link.proofs.send.grants_fct.Tie as tie
 
@@ -11,4 +10,12 @@ grants-fct-spec =
     (tie.spec
     (λ c κs. search needs)
     (λ c κs. search needs)
-    (λ c. c .may-grant .ensures ∙ sym (rw (← c .before .free-places .ensures))))
+    (λ c κs. search needs)
+    (λ c κs. search needs)
+    (λ c l e g.
+    rw (
+      c .may-grant .ensures,
+      c .before .before .given-in .ensures l e g,
+      c .before .free-places .ensures,
+      c .before .before .before .rx-in .ensures .0 l e,
+    )))

@@ -10,5 +10,14 @@ has-n-char-spec =
     (tie.spec
     (λ c κs. search needs)
     (λ c κs. search needs)
-    (λ c. rw (← c .before .none-held .ensures, c .if1 .taken))
-    (λ c. rw (← c .before .before .none-held .ensures, c .before .if1 .left, c .is-empty .ensures)))
+    (λ c κs. search needs)
+    (λ c κs. search needs)
+    (λ c l e g. rw (← c .before .before .held-in .ensures l e g, ← c .before .none-held .ensures, c .if1 .taken))
+    (λ c l e g.
+    rw (
+      c .is-empty .ensures,
+      c .before .tx-in .ensures .0 l e,
+      ← c .before .before .before .before .held-in .ensures l e g,
+      ← c .before .before .before .none-held .ensures,
+      c .before .before .if1 .left,
+    )))

@@ -1,6 +1,7 @@
 -- `router::held::through` meets its contract.
 -- Assumes nothing.
 use borrow.Author.Needs.{needs}
+use mathlib.Core.Path.{_∙_}
 use Rattle.router.specs.Held.{setsOf, nothingHeld, heldThrough}
 use Rattle.router.proofs.held.through.Statement.{statement}
 use Rattle.router.proofs.held.through.Tie as tie
@@ -19,12 +20,18 @@ through-spec =
     (λ c κs. search needs)
     (λ c κs. search needs)
     (λ c κs. search needs)
+    (λ c κs. search needs)
     (λ c.
-    let sets = c .before .before .before in
-    let owner = sets .before .before in
-    let out = c .before .nothing-at-output .ensures in
-    let at = c .before .before .nothing-at-input .ensures in
-    let first = owner .before .waiting-in .ensures in
-    let second = sets .before .waiting-in2 .ensures in
-    let mode = owner .before .before .mode-at .ensures in
-    rw (c .both .ensures, out, at, sets .inputs-that .ensures, second, owner .owner-of .ensures, first, mode)))
+    let sets = c .before .before .before .before in
+    let output = sets .before .before in
+    c .held-words .ensures
+    ∙ rw (
+      c .before .both .ensures,
+      c .before .before .nothing-at-output .ensures,
+      c .before .before .before .nothing-at-input .ensures,
+      sets .inputs-that .ensures,
+      sets .before .store-at2 .ensures,
+      output .output-at .ensures,
+      output .before .store-at .ensures,
+      output .before .before .mode-at .ensures,
+    )))

@@ -20,7 +20,16 @@ follow-spec =
     (λ c. search needs)
     (λ c κs. search needs)
     (λ c κs. search needs)
-    (λ c. c .mark .ensures (kept (c .before .before .before .before .before .before .args .state .now) (c .before .before .before .before .before .before .args .area .now)) _ ∙ rw (c .before .drop-front .ensures, c .before .before .before .enum-told .given .1))
-    (λ c. let before = kept (c .before .before .before .before .before .before .before .args .state .now) (c .before .before .before .before .before .before .before .args .area .now) in
-    c .mark2 .ensures before _ ∙ rw (c .before .count-error .ensures before, c .before .before .set-mode .ensures, c .before .before .before .before .enum-told2 .given .1))
-    (λ c. c .mark3 .ensures (kept (c .before .before .before .before .before .before .before .args .state .now) (c .before .before .before .before .before .before .before .args .area .now)) _ ∙ rw (c .before .wait .ensures, c .before .before .before .before .h .given .1)))
+    (λ c.
+    let arm = c .before .before .before in
+    let a = arm .before .before .before .args in
+    c .mark .ensures (kept (a .state .now) (a .area .now)) _ ∙ rw (c .before .drop-front .ensures, arm .enum-told .given .1))
+    (λ c.
+    let arm = c .before .before .before .before in
+    let a = arm .before .before .before .args in
+    let before = kept (a .state .now) (a .area .now) in
+    c .mark2 .ensures before _ ∙ rw (c .before .count-error .ensures before, c .before .before .set-mode .ensures, arm .enum-told2 .given .1))
+    (λ c.
+    let arm = c .before .before .before .before in
+    let a = arm .before .before .before .args in
+    c .mark3 .ensures (kept (a .state .now) (a .area .now)) _ ∙ rw (c .before .wait .ensures, arm .h .given .1)))

@@ -16,4 +16,8 @@ read-spec =
     (λ c κs. search needs)
     (λ c κs. search needs)
     (λ c κs. search needs)
-    (λ c. c .follow .ensures ∙ rw (c .before .heading-of .ensures, c .before .before .before .front-at .ensures, ← c .before .before .before .before .before .before .empty-at .ensures, c .before .before .before .before .before .if1 .left)))
+    (λ c.
+    let front = c .before .before .before in
+    let some = front .before .before in
+    c .follow .ensures
+    ∙ rw (c .before .heading-of .ensures, front .front-at .ensures, ← some .before .empty-at .ensures, some .if1 .left)))

@@ -3,8 +3,8 @@
 use borrow.Author.Needs.{needs}
 use Prim.Native.Nat.{_+_}
 use native.Mathlib.Omega.{arith}
-use Rattle.port_words.specs.RouterWords.{withoutFrontIn}
-use Rattle.port_words.proofs.PlaceWords.{store-picked}
+use Rattle.router_ports.specs.RouterWords.{withoutFrontIn}
+use Rattle.router_ports.proofs.PlaceWords.{store-picked}
 use Rattle.router_rounds.specs.Moves.{carries}
 use Rattle.router_rounds.proofs.CarryLaws.{behind-keeps}
 use Rattle.router_rounds.proofs.moves.carry.Statement.{statement}
@@ -21,6 +21,9 @@ carry-spec =
     (λ c κs. search needs)
     (λ c κs. search needs)
     (λ c. search needs)
-    (λ c. let a = c .before .before .before .before .before .before .before .before .before .before .before .before .args in
-    let kept = behind-keeps (a .state .now) (a .i) (11 + a .o) (omega (arith, c .before .before .before .before .before .before .before .before .before .before .before .before .pre)) (omega (arith, c .before .before .before .before .before .before .before .before .before .before .before .before .pre)) (a .area .now) in
-    rw (c .set-store .ensures, c .before .drop-of .ensures, c .before .before .before .before .before .before .append .ensures .0, c .before .before .before .before .before .before .append .ensures .1, c .before .before .before .before .before .before .before .before .before .store-at .ensures, store-picked, kept)))
+    (λ c. let put = c .before .before .before .before .before .before in
+    let read = put .before .before .before in
+    let start = read .before .before .before in
+    let a = start .args in
+    let kept = behind-keeps (a .state .now) (a .i) (11 + a .o) (omega (arith, start .pre)) (omega (arith, start .pre)) (a .area .now) (a .n) in
+    rw (c .set-store .ensures, c .before .drop-of .ensures, put .append .ensures .0, put .append .ensures .1, read .store-at .ensures, store-picked, kept)))

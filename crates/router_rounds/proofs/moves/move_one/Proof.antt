@@ -25,5 +25,9 @@ move-one-spec =
     (λ c κs. search needs)
     (λ c κs. search needs)
     (λ c. search needs)
-    (λ c. c .before .before .moved .ensures
-    ∙ rw (c .before .before .before .before .before .front-at .ensures, ← c .before .before .before .before .before .before .before .before .before .before .before .before .full-at .ensures, c .before .before .before .before .before .before .before .before .before .before .before .if2 .left, ← c .before .before .before .before .before .before .before .before .before .empty-at .ensures, c .before .before .before .before .before .before .before .before .if3 .left)))
+    (λ c.
+    let front = c .before .before .before .before .before in
+    let some = front .before .before .before in
+    let room = some .before .before .before in
+    c .before .before .moved .ensures
+    ∙ rw (front .front-at .ensures, ← room .before .full-at .ensures, room .if2 .left, ← some .before .empty-at .ensures, some .if3 .left)))

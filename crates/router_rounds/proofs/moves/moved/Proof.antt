@@ -19,9 +19,25 @@ moved-spec =
     (λ c κs. search needs)
     (λ c κs. search needs)
     (λ c. search needs)
-    (λ c. let before = kept (c .before .before .before .before .before .before .before .before .before .before .before .before .args .state .now) (c .before .before .before .before .before .before .before .before .before .before .before .before .args .area .now) in
+    (λ c.
+    let test = c .before .before .before in
+    let counted = test .before .before in
+    let carried = counted .before .before .before in
+    let a = carried .before .before .before .before .args in
+    let before = kept (a .state .now) (a .area .now) in
     c .mark .ensures before _
-    ∙ rw (c .before .free-both .ensures (c .before .before .before .before .before .before .before .before .carry .last .1 .0), c .before .before .before .before .before .before .before .before .carry .ensures, c .before .before .before .before .before .count-moved .ensures before, ← c .before .before .before .before .is-end .ensures, c .before .before .before .if1 .taken))
+    ∙ rw (
+      c .before .free-both .ensures (carried .carry .last .1 .0),
+      carried .carry .ensures,
+      counted .count-moved .ensures before,
+      ← test .before .is-end .ensures,
+      test .if1 .taken,
+    ))
     (λ c. search needs)
-    (λ c. let before = kept (c .before .before .before .before .before .before .before .before .before .before .args .state .now) (c .before .before .before .before .before .before .before .before .before .before .args .area .now) in
-    c .mark2 .ensures before _ ∙ rw (c .before .before .before .before .before .before .carry .ensures, c .before .before .before .count-moved .ensures before, ← c .before .before .is-end .ensures, c .before .if1 .left)))
+    (λ c.
+    let counted = c .before .before .before in
+    let carried = counted .before .before .before in
+    let a = carried .before .before .before .before .args in
+    let before = kept (a .state .now) (a .area .now) in
+    c .mark2 .ensures before _
+    ∙ rw (carried .carry .ensures, counted .count-moved .ensures before, ← c .before .before .is-end .ensures, c .before .if1 .left)))

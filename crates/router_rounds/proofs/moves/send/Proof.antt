@@ -21,6 +21,9 @@ send-spec =
     (λ c. rw (← c .before .before .mode-at .ensures, c .enum-told .given .1))
     (λ c. rw (← c .before .before .mode-at .ensures, c .enum-told2 .given .1))
     (λ c. search needs)
-    (λ c. c .before .before .move-one .ensures ∙ rw (← c .before .before .before .before .before .before .before .before .mode-at .ensures, c .before .before .before .before .before .before .m .given .1))
+    (λ c.
+    let moved = c .before .before in
+    let arm = moved .before .before .before .before in
+    moved .move-one .ensures ∙ rw (← arm .before .before .mode-at .ensures, arm .m .given .1))
     (λ c. search needs)
     (λ c. c .spill-one .ensures ∙ rw (← c .before .before .before .before .before .mode-at .ensures, c .before .before .before .enum-told3 .given .1)))

@@ -26,7 +26,8 @@ abbrev μ-loop : tie.MeasureT-loop
 
 goes-on : tie.Need-loop-again Inv-loop μ-loop
 goes-on c =
-    let l = c .before .before .before .before .before .before .loop in
+    let test = c .before .before .before .before .before in
+    let l = test .before .loop in
     let t : Tally Words = tally (l .q) (kept (l .state) (l .area)) in
     let sent = c .before .before .send in
     let same = ap (λ (u : Tally Words). u .moved) (sent .ensures) in (
@@ -34,7 +35,7 @@ goes-on c =
       omega (arith, same, sends-add inWords t (l .i) .moved),
       sent .kept .1 .1 .0 ∙ l .inv .2,
       l .inv .3
-          ∙ each-next (sends inWords) (l .i) 11 t (c .before .before .before .before .before .loop-test .taken)
+          ∙ each-next (sends inWords) (l .i) 11 t (test .loop-test .taken)
           ∙ ap (each (sends inWords) (l .i + 1) (11 - (l .i + 1))) (sym (sent .ensures)),
     )
 

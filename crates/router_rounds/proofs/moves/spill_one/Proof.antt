@@ -17,5 +17,9 @@ spill-one-spec =
     (λ c κs. search needs)
     (λ c κs. search needs)
     (λ c κs. search needs)
-    (λ c. c .mark .ensures (kept (c .before .before .before .before .before .before .before .before .before .args .state .now) (c .before .before .before .before .before .before .before .before .before .args .area .now)) _
-    ∙ rw (c .before .spill .ensures, c .before .before .before .front-at .ensures, ← c .before .before .before .before .before .before .empty-at .ensures, c .before .before .before .before .before .if1 .left)))
+    (λ c.
+    let front = c .before .before .before in
+    let some = front .before .before in
+    let a = some .before .before .before .before .args in
+    c .mark .ensures (kept (a .state .now) (a .area .now)) _
+    ∙ rw (c .before .spill .ensures, front .front-at .ensures, ← some .before .empty-at .ensures, some .if1 .left)))

@@ -1,5 +1,0 @@
-pub mod GoodLaws
-pub mod WaitingLaws
-pub mod LeftLaws
-pub mod DecoderLaws
-pub mod EncoderLaws

@@ -1,2 +1,0 @@
-pub mod DecoderWords
-pub mod EncoderWords

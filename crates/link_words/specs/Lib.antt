@@ -1,2 +1,0 @@
-pub mod LinkWords
-pub mod LinkCalls

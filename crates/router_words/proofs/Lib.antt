@@ -1,2 +1,0 @@
-pub mod InPlaceLaws
-pub mod StayLaws

@@ -1,2 +1,0 @@
-pub mod RouterCalls
-pub mod HeldCalls
