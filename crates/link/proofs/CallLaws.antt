@@ -1,9 +1,10 @@
--- What the tests of a call come to, and what a call leaves where it is accepted and where it is refused.
+-- What the first test of a call says, and what a call leaves where it is accepted and where it is refused.
 -- Assumes nothing.
-use Prim.Native.Nat.{ℕ}
+use Prim.Native.Nat.{ℕ, suc}
 use mathlib.Core.Path.{_≡_, refl, sym, ap, _∙_}
-use mathlib.Core.Bool.{Bool, true, false, not, _||_, _&&_}
+use mathlib.Core.Bool.{Bool, true, false, not, _||_, _&&_, true≢false}
 use mathlib.Core.List.{List, [], _∷_}
+use native.Mathlib.Omega.{arith}
 use lib.ListN.{length}
 use lib.Dec.{eqb}
 use borrow.Author.Tests.{eq-eqb, ne-eqb, eqb-true}
@@ -30,46 +31,25 @@ use Rattle.link.specs.Records.{Link, Sending, Effect}
 use Rattle.link.specs.LinkWords.{linkWords, linkOf, isLink, timeWords, timeOf, isTime}
 use Rattle.link.specs.LinkCalls.{receiveRefused, receiveLeft, receiptLeft, noReceipt, ReceiptStays}
 use Rattle.link.specs.LinkCalls.{LinkLeft, StaysWith, answerLeft, dispatchLeft, sendLeft, endOf, noLink, bothRefused}
-use Rattle.link.specs.InPlace.{Reads}
+use Rattle.link.proofs.StayLaws.{link-stays}
 
--- three tests, and what the later ones say
-in-order : (a b c : Bool) (later : ℕ) →
-    pick a (number STATE) (pick b (number STORE) (pick c (number STATE) later))
-    ≡ pick (eqb (pick a (number STATE) (pick b (number STORE) (pick c (number STATE) 0))) 0) later
-    (pick a (number STATE) (pick b (number STORE) (pick c (number STATE) 0)))
-in-order true b c later = refl
-in-order false true c later = refl
-in-order false false true later = refl
-in-order false false false later = refl
+-- what the first test says of the words
+pub is-so : (b : Bool) → not b ≡ false → b ≡ true
+is-so true e = refl
+is-so false e = absurd (true≢false e)
 
--- the tests of what is lent to a call on both stores
-pub lent-of : (words : List ℕ) (rx tx later : ℕ) {no bad sizes stores : Bool} →
-    no ≡ not (isLink words) → Reads words badRecord bad → sizes ≡ (badRxSize rx || badTxSize tx) →
-    Reads words (λ (l : Link). badReceive rx l || badStore tx (l .tx)) stores →
-    pick (no || bad) (number STATE) (pick sizes (number STORE) (pick stores (number STATE) later))
-    ≡ pick (eqb (bothRefused words rx tx) 0) later (bothRefused words rx tx)
-lent-of words rx tx later {no} {bad} {sizes} {stores} n b z s = by (isLink words) refl
-  where
-    by : (link : Bool) → isLink words ≡ link →
-        pick (no || bad) (number STATE) (pick sizes (number STORE) (pick stores (number STATE) later))
-        ≡ pick (eqb (bothRefused words rx tx) 0) later (bothRefused words rx tx)
-    by true e =
-        let own = same-is words (linkWords (linkOf words)) e in
-        rw (n, e, b (linkOf words) own, z, s (linkOf words) own)
-        (in-order (badRecord (linkOf words)) (badRxSize rx || badTxSize tx)
-        (badReceive rx (linkOf words) || badStore tx (linkOf words .tx)) later)
-    by false e = rw (n, e)
+is-not : (b : Bool) → not b ≡ true → b ≡ false
+is-not true e = absurd (true≢false (sym e))
+is-not false e = refl
 
--- the number of an answer that was chosen by it
-chosen : (n : ℕ) (none : Bool) → eqb n 0 ≡ none → pick none 0 n ≡ n
-chosen n true e = sym (eqb-true n 0 e)
-chosen n false e = refl
+pub linked : (words : List ℕ) {no : Bool} → no ≡ not (isLink words) → no ≡ false → isLink words ≡ true
+linked words e h = is-so (isLink words) (sym e ∙ h)
 
-pub both-of : (words : List ℕ) (rx tx : ℕ) {no bad sizes stores : Bool} →
-    no ≡ not (isLink words) → Reads words badRecord bad → sizes ≡ (badRxSize rx || badTxSize tx) →
-    Reads words (λ (l : Link). badReceive rx l || badStore tx (l .tx)) stores →
-    pick (no || bad) (number STATE) (pick sizes (number STORE) (pick stores (number STATE) 0)) ≡ bothRefused words rx tx
-both-of words rx tx n b z s = lent-of words rx tx 0 n b z s ∙ chosen (bothRefused words rx tx) (eqb (bothRefused words rx tx) 0) refl
+pub unlinked : (words : List ℕ) {no : Bool} → no ≡ not (isLink words) → no ≡ true → isLink words ≡ false
+unlinked words e h = is-not (isLink words) (sym e ∙ h)
+
+one-more : {m n : ℕ} → m ≡ suc n → m ≡ 0 → ⊥
+one-more e z = omega (arith, sym e ∙ z)
 
 -- an answer of a call on both stores, accepted and refused
 module _ (words rx tx : List ℕ) (s : Settled) where
@@ -105,6 +85,12 @@ module _ (words rx tx : List ℕ) (s : Settled) where
           (ap (λ (ws : List ℕ). record { refusal = bothRefusal (length rx) (length tx) (linkOf words); state = ws; places = rx; out = 0 ∷ [] }) (sym own))
       by false e = rw e
 
+  pub refused-as : (n : ℕ) → bothRefused words (length rx) (length tx) ≡ suc n →
+      record { refusal = suc n; state = words; places = rx; out = 0 ∷ [] } ≡ left
+  refused-as n e =
+      ap (λ (k : ℕ). record { refusal = k; state = words; places = rx; out = 0 ∷ [] }) (sym e)
+      ∙ sym (refused-left (one-more e))
+
 -- a refused call leaves what its words, places and zeros say, once its refusal is known
 pub told : (left : LinkLeft) (n : ℕ) (words places zeros : List ℕ) → left .refusal ≡ n → (n ≡ 0 → ⊥) →
     StaysWith words places zeros left → record { refusal = n; state = words; places = places; out = zeros } ≡ left
@@ -116,7 +102,7 @@ told left n words places zeros e nonzero stays =
     ∙ ap (λ (x : List ℕ). record { refusal = left .refusal; state = left .state; places = left .places; out = x }) (sym out)
 
 module _ (words rx tx : List ℕ) where
-  pub send-refusal : sendLeft words rx tx .refusal ≡ bothRefused words (length rx) (length tx)
+  send-refusal : sendLeft words rx tx .refusal ≡ bothRefused words (length rx) (length tx)
   unfolding sendLeft sendOutcome endOf noLink dispatchLeft dispatched dispatchOf sendRefused
   send-refusal = by (isLink words) refl
     where
@@ -128,6 +114,11 @@ module _ (words rx tx : List ℕ) where
       by : (link : Bool) → isLink words ≡ link → sendLeft words rx tx .refusal ≡ bothRefused words (length rx) (length tx)
       by true e = rw e (sends _ _ (both (endOf words rx tx)) (eqb (both (endOf words rx tx)) 0) refl)
       by false e = rw e
+
+  pub send-refused-as : (n : ℕ) → bothRefused words (length rx) (length tx) ≡ suc n →
+      record { refusal = suc n; state = words; places = rx; out = 0 ∷ 0 ∷ 0 ∷ [] } ≡ sendLeft words rx tx
+  send-refused-as n e =
+      told (sendLeft words rx tx) (suc n) words rx (0 ∷ 0 ∷ 0 ∷ []) (send-refusal ∙ e) (one-more refl) (link-stays .send words rx tx)
 
   pub send-accepted : isLink words ≡ true → bothRefusal (length rx) (length tx) (linkOf words) ≡ 0 →
       (sent : Sending) → sent ≡ sending (length rx) tx (linkOf words) →
@@ -142,34 +133,28 @@ module _ (words rx tx : List ℕ) where
   unfolding sendLeft sendOutcome endOf dispatchLeft dispatched dispatchOf
   send-accepted link passes sent chosen s settled = rw (link, eq-eqb _ 0 passes, ← chosen, ← settled)
 
--- the tests of a received token
-or-true : (b : Bool) → b || true ≡ true
-or-true true = refl
-or-true false = refl
-
-pub receive-of : (words : List ℕ) (rx tx : ℕ) (time : List ℕ) (t : Token) {no bad clock sizes stores : Bool} →
-    no ≡ not (isLink words) → Reads words badRecord bad → clock ≡ (not (isTime time) || badTime (timeOf time)) →
-    sizes ≡ (badRxSize rx || badTxSize tx) → Reads words (λ (l : Link). badReceive rx l || badStore tx (l .tx)) stores →
-    pick (no || (bad || clock)) (number STATE)
-    (pick sizes (number STORE) (pick stores (number STATE) (pick (badChar t) (number CHAR) 0)))
-    ≡ receiveRefused words rx tx time t
-receive-of words rx tx time t {no} {bad} {clock} {sizes} {stores} n b k z s = by (isLink words) refl (isTime time) refl
+pub early-record : (words : List ℕ) (rx tx : ℕ) (time : List ℕ) (t : Token) → isLink words ≡ true → badRecord (linkOf words) ≡ true →
+    receiveRefused words rx tx time t ≡ number STATE
+early-record words rx tx time t link bad = by (isTime time) refl
   where
-    by : (link : Bool) → isLink words ≡ link → (good : Bool) → isTime time ≡ good →
-        pick (no || (bad || clock)) (number STATE)
-        (pick sizes (number STORE) (pick stores (number STATE) (pick (badChar t) (number CHAR) 0)))
-        ≡ receiveRefused words rx tx time t
-    by true e true h =
-        let own = same-is words (linkWords (linkOf words)) e in
-        rw (n, k, e, h, b (linkOf words) own, z, s (linkOf words) own)
-    by true e false h = rw (n, k, e, h, or-true bad)
-    by false e good h = rw (n, e)
+    by : (clock : Bool) → isTime time ≡ clock → receiveRefused words rx tx time t ≡ number STATE
+    by true e = rw (link, e, bad)
+    by false e = rw (link, e)
+
+-- a bad time record is STATE, as a bad record of the end is
+pub late : (words : List ℕ) (rx tx : ℕ) (time : List ℕ) (t : Token) → isLink words ≡ true → badRecord (linkOf words) ≡ false →
+    (not (isTime time) || badTime (timeOf time)) ≡ true → receiveRefused words rx tx time t ≡ number STATE
+late words rx tx time t link good bad = by (isTime time) refl
+  where
+    by : (clock : Bool) → isTime time ≡ clock → receiveRefused words rx tx time t ≡ number STATE
+    by true e = rw (link, e, good, (rw e at bad))
+    by false e = rw (link, e)
 
 module _ (words rx tx time : List ℕ) (kind value : ℕ) where
   abbrev token : Token
   token = tokenOf kind value
 
-  pub receive-refusal :
+  receive-refusal :
       receiveLeft words rx tx time kind value .refusal ≡ receiveRefused words (length rx) (length tx) time token
   unfolding receiveLeft receiveOutcome endOf noReceipt receiptLeft tokenAccepted received receiptOf asRefused
   receive-refusal = by (isLink words && isTime time) refl
@@ -203,7 +188,7 @@ module _ (words rx tx time : List ℕ) (kind value : ℕ) where
   receive-accepted link clock passes f heard s settled = rw (link, clock, eq-eqb _ 0 passes, ← heard, ← settled)
 
   -- a refused token leaves what it was lent, once its refusal is known
-  pub told-receive : (n : ℕ) → receiveLeft words rx tx time kind value .refusal ≡ n → (n ≡ 0 → ⊥) →
+  told-receive : (n : ℕ) → receiveLeft words rx tx time kind value .refusal ≡ n → (n ≡ 0 → ⊥) →
       ReceiptStays words rx time (receiveLeft words rx tx time kind value) →
       record { refusal = n; state = words; rx = rx; time = time; out = 0 ∷ 0 ∷ [] } ≡ receiveLeft words rx tx time kind value
   told-receive n e nonzero stays =
@@ -214,3 +199,9 @@ module _ (words rx tx time : List ℕ) (kind value : ℕ) where
       ∙ ap (λ (x : List ℕ). record { refusal = left .refusal; state = left .state; rx = x; time = time; out = 0 ∷ 0 ∷ [] }) (sym held)
       ∙ ap (λ (x : List ℕ). record { refusal = left .refusal; state = left .state; rx = left .rx; time = x; out = 0 ∷ 0 ∷ [] }) (sym clock)
       ∙ ap (λ (x : List ℕ). record { refusal = left .refusal; state = left .state; rx = left .rx; time = left .time; out = x }) (sym out)
+
+  pub receive-refused-as : (n : ℕ) → receiveRefused words (length rx) (length tx) time token ≡ suc n →
+      record { refusal = suc n; state = words; rx = rx; time = time; out = 0 ∷ 0 ∷ [] }
+      ≡ receiveLeft words rx tx time kind value
+  receive-refused-as n e =
+      told-receive (suc n) (receive-refusal ∙ e) (one-more refl) (link-stays .receive words rx tx time kind value)

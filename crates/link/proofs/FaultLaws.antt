@@ -1,9 +1,9 @@
 -- A number that no fault has meets the tests of a received token that is none: those of every call, then CHAR.
 -- Assumes nothing.
-use Prim.Native.Nat.{ℕ, _≤_}
+use Prim.Native.Nat.{ℕ, suc, _≤_}
 use mathlib.Core.Path.{_≡_, refl, sym, ap, _∙_}
 use mathlib.Core.Bool.{Bool, true, false, _||_, true≢false}
-use mathlib.Core.List.{List}
+use mathlib.Core.List.{List, [], _∷_}
 use native.Mathlib.Omega.{arith}
 use lib.ListN.{length}
 use lib.Dec.{eqb, ltb}
@@ -27,7 +27,9 @@ use Rattle.link.specs.Calls.{both, receiving, tokenAccepted, received, r
 use Rattle.link.specs.LinkCalls.{asAnswer, numberedFault, NoFaultIsChar, answerLeft, endOf, faultLeft, faultOf, faultRefused}
 use Rattle.link.specs.LinkCalls.{noFault, noLink}
 use Rattle.link.specs.LinkWords.{isLink}
+use Rattle.link.proofs.StayLaws.{link-stays}
 use Rattle.link.proofs.RefusedLaws.{in-order}
+use Rattle.link.proofs.CallLaws.{told}
 
 receiving-none : (e : End) → receiving e freshTime noToken ≡ pick (eqb (both e) 0) (number CHAR) (both e)
 unfolding freshTime
@@ -73,7 +75,7 @@ unfolding answerLeft
 refusal-told o = refl
 
 -- what a fault is refused with
-pub fault-refusal : (words rx tx : List ℕ) (kind : ℕ) →
+fault-refusal : (words rx tx : List ℕ) (kind : ℕ) →
     faultLeft words rx tx kind .refusal ≡ faultRefused words (length rx) (length tx) kind
 unfolding faultLeft faultOutcome endOf noLink answerLeft accepted answered refused refusedWith
 fault-refusal words rx tx kind = by (isLink words) refl (noFault kind) refl
@@ -95,3 +97,9 @@ fault-refusal words rx tx kind = by (isLink words) refl (noFault kind) refl
         rw (p, q) (refusal-told (numberedFault e kind)
         ∙ no-fault-is-char e kind (other 5 refl) (other 6 refl) (other 7 refl))
     by false p none q = rw p
+
+pub fault-refused-as : (words rx tx : List ℕ) (kind n : ℕ) → faultRefused words (length rx) (length tx) kind ≡ suc n →
+    record { refusal = suc n; state = words; places = rx; out = 0 ∷ [] } ≡ faultLeft words rx tx kind
+fault-refused-as words rx tx kind n e =
+    told (faultLeft words rx tx kind) (suc n) words rx (0 ∷ []) (fault-refusal words rx tx kind ∙ e) (λ z. omega (arith, z))
+    (link-stays .fault words rx tx kind)

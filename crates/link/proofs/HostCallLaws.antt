@@ -1,9 +1,10 @@
 -- What put, take and a Time-Code offer leave where they are accepted and where they are refused.
 -- Assumes nothing.
-use Prim.Native.Nat.{ℕ}
-use mathlib.Core.Path.{_≡_, refl, sym, _∙_}
+use Prim.Native.Nat.{ℕ, suc}
+use mathlib.Core.Path.{_≡_, refl, sym, ap, _∙_}
 use mathlib.Core.Bool.{Bool, true, false}
 use mathlib.Core.List.{List, [], _∷_}
+use native.Mathlib.Omega.{arith}
 use lib.ListN.{length}
 use lib.Dec.{eqb}
 use borrow.Author.Tests.{eq-eqb, eqb-true}
@@ -69,7 +70,7 @@ module _ (words tx : List ℕ) (n : ℕ) where
   unfolding putLeft putAnswer putPlacesAfter putDone answered
   put-accepted link passes = rw (link, eq-eqb _ 0 passes, discarded-fits (length tx) l (fitted n))
 
-  pub put-refused : (putRefused words (length tx) (fitted n) ≡ 0 → ⊥) →
+  put-refused : (putRefused words (length tx) (fitted n) ≡ 0 → ⊥) →
       putLeft words tx n
       ≡ record { refusal = putRefused words (length tx) (fitted n); state = words; places = tx; out = 0 ∷ [] }
   unfolding putLeft putAnswer putPlacesAfter putDone answered refusedWith noLink
@@ -82,6 +83,12 @@ module _ (words tx : List ℕ) (n : ℕ) where
       (pick zero (putsPlaces tx l (fitted n)) tx))
       (noLink words tx (0 ∷ [])) refl refl refl)
 
+  pub put-refused-as : (k : ℕ) → putRefused words (length tx) (fitted n) ≡ suc k →
+      record { refusal = suc k; state = words; places = tx; out = 0 ∷ [] } ≡ putLeft words tx n
+  put-refused-as k e =
+      ap (λ (m : ℕ). record { refusal = m; state = words; places = tx; out = 0 ∷ [] }) (sym e)
+      ∙ sym (put-refused (λ z. omega (arith, sym e ∙ z)))
+
 module _ (words rx : List ℕ) where
   pub take-accepted : isLink words ≡ true → takeRefusal (length rx) (linkOf words) ≡ 0 →
       takeLeft words rx
@@ -93,7 +100,7 @@ module _ (words rx : List ℕ) where
   unfolding takeLeft takeAnswer takeAccepted taken
   take-accepted link passes = rw (link, eq-eqb _ 0 passes)
 
-  pub take-refused : (takeRefused words (length rx) ≡ 0 → ⊥) →
+  take-refused : (takeRefused words (length rx) ≡ 0 → ⊥) →
       takeLeft words rx ≡ record { refusal = takeRefused words (length rx); state = words; out = 0 ∷ 0 ∷ [] }
   unfolding takeLeft takeAnswer takeAccepted calls.takeRefused taken
   take-refused =
@@ -105,13 +112,19 @@ module _ (words rx : List ℕ) where
       (calls.takeRefused (linkOf words) (takeRefusal (length rx) (linkOf words)))))
       _ refl refl refl)
 
+  pub take-refused-as : (k : ℕ) → takeRefused words (length rx) ≡ suc k →
+      record { refusal = suc k; state = words; out = 0 ∷ 0 ∷ [] } ≡ takeLeft words rx
+  take-refused-as k e =
+      ap (λ (m : ℕ). record { refusal = m; state = words; out = 0 ∷ 0 ∷ [] }) (sym e)
+      ∙ sym (take-refused (λ z. omega (arith, sym e ∙ z)))
+
 module _ (words : List ℕ) (code : ℕ) where
   pub offer-accepted : isLink words ≡ true → offerRefusal (linkOf words) ≡ 0 →
       offerLeft words code ≡ record { refusal = 0; state = linkWords (offers (linkOf words) code); out = 0 ∷ [] }
   unfolding offerLeft offerAnswer offerAccepted offered
   offer-accepted link passes = rw (link, eq-eqb _ 0 passes)
 
-  pub offer-refused : (offerRefused words ≡ 0 → ⊥) →
+  offer-refused : (offerRefused words ≡ 0 → ⊥) →
       offerLeft words code ≡ record { refusal = offerRefused words; state = words; out = 0 ∷ [] }
   unfolding offerLeft offerAnswer offerAccepted offered refusedWith
   offer-refused =
@@ -121,3 +134,9 @@ module _ (words : List ℕ) (code : ℕ) where
       offered
       (pick zero (offerAccepted (linkOf words) code) (refusedWith (linkOf words) (offerRefusal (linkOf words)))))
       _ refl refl refl)
+
+  pub offer-refused-as : (k : ℕ) → offerRefused words ≡ suc k →
+      record { refusal = suc k; state = words; out = 0 ∷ [] } ≡ offerLeft words code
+  offer-refused-as k e =
+      ap (λ (m : ℕ). record { refusal = m; state = words; out = 0 ∷ [] }) (sym e)
+      ∙ sym (offer-refused (λ z. omega (arith, sym e ∙ z)))

@@ -27,7 +27,7 @@ use vocabulary::EMPTY;
 use vocabulary::FULL;
 use vocabulary::NOTRUN;
 use vocabulary::STATE;
-use vocabulary::refuse;
+use vocabulary::STORE;
 
 // A link end as it is made: in ErrorReset, controls off, stores empty.
 pub fn fresh(words: &mut Words)
@@ -47,19 +47,23 @@ pub fn tick(words: &mut Words, rx: &mut [u16], tx: &[u16], out: &mut [u32; 1]) -
     ensures { λ r. ⌜ record { refusal = r; state = now (words .exit); places = now (rx .exit); out = now (out .exit) }
         ≡ tickLeft (now (words .entry)) (now (rx .entry)) (now (tx .entry)) ⌝ }
 {
-    let bad = refusals::no_link(words) | refusals::bad_record(words);
-    let sizes = refusals::bad_sizes(rx.len(), tx.len());
-    let stores = refusals::bad_stores(words, rx.len(), tx.len());
-    let number = vocabulary::lent(bad, sizes, stores, 0);
-    if number == 0 {
-        received::count(words);
-        let discarded = recovery::settle(Event::Quiet, words, rx, tx);
-        *out = [discarded];
-        0
-    } else {
-        *out = [0];
-        number as u32
+    *out = [0];
+    if refusals::no_link(words) {
+        return STATE as u32;
     }
+    if refusals::bad_record(words) {
+        return STATE as u32;
+    }
+    if refusals::bad_sizes(rx.len(), tx.len()) {
+        return STORE as u32;
+    }
+    if refusals::bad_stores(words, rx.len(), tx.len()) {
+        return STATE as u32;
+    }
+    received::count(words);
+    let discarded = recovery::settle(Event::Quiet, words, rx, tx);
+    *out = [discarded];
+    0
 }
 
 // To ErrorReset from any state, with both stores emptied.
@@ -67,18 +71,22 @@ pub fn reset(words: &mut Words, rx: &mut [u16], tx: &[u16], out: &mut [u32; 1]) 
     ensures { λ r. ⌜ record { refusal = r; state = now (words .exit); places = now (rx .exit); out = now (out .exit) }
         ≡ resetLeft (now (words .entry)) (now (rx .entry)) (now (tx .entry)) ⌝ }
 {
-    let bad = refusals::no_link(words) | refusals::bad_record(words);
-    let sizes = refusals::bad_sizes(rx.len(), tx.len());
-    let stores = refusals::bad_stores(words, rx.len(), tx.len());
-    let number = vocabulary::lent(bad, sizes, stores, 0);
-    if number == 0 {
-        let discarded = recovery::reset_all(words, rx);
-        *out = [discarded];
-        0
-    } else {
-        *out = [0];
-        number as u32
+    *out = [0];
+    if refusals::no_link(words) {
+        return STATE as u32;
     }
+    if refusals::bad_record(words) {
+        return STATE as u32;
+    }
+    if refusals::bad_sizes(rx.len(), tx.len()) {
+        return STORE as u32;
+    }
+    if refusals::bad_stores(words, rx.len(), tx.len()) {
+        return STATE as u32;
+    }
+    let discarded = recovery::reset_all(words, rx);
+    *out = [discarded];
+    0
 }
 
 fn fault_of(kind: u32) -> FaultKind
@@ -96,20 +104,26 @@ pub fn fault(words: &mut Words, rx: &mut [u16], tx: &[u16], kind: u32, out: &mut
     ensures { λ r. ⌜ record { refusal = r; state = now (words .exit); places = now (rx .exit); out = now (out .exit) }
         ≡ faultLeft (now (words .entry)) (now (rx .entry)) (now (tx .entry)) kind ⌝ }
 {
-    let char = refuse(refusals::no_fault(kind), CHAR, 0);
-    let bad = refusals::no_link(words) | refusals::bad_record(words);
-    let sizes = refusals::bad_sizes(rx.len(), tx.len());
-    let stores = refusals::bad_stores(words, rx.len(), tx.len());
-    let number = vocabulary::lent(bad, sizes, stores, char);
-    if number == 0 {
-        let event = received::fault_event(words, fault_of(kind));
-        let discarded = recovery::settle(event, words, rx, tx);
-        *out = [discarded];
-        0
-    } else {
-        *out = [0];
-        number as u32
+    *out = [0];
+    if refusals::no_link(words) {
+        return STATE as u32;
     }
+    if refusals::bad_record(words) {
+        return STATE as u32;
+    }
+    if refusals::bad_sizes(rx.len(), tx.len()) {
+        return STORE as u32;
+    }
+    if refusals::bad_stores(words, rx.len(), tx.len()) {
+        return STATE as u32;
+    }
+    if refusals::no_fault(kind) {
+        return CHAR as u32;
+    }
+    let event = received::fault_event(words, fault_of(kind));
+    let discarded = recovery::settle(event, words, rx, tx);
+    *out = [discarded];
+    0
 }
 
 // The three controls, all at once; any number but 0 is on.
@@ -125,19 +139,23 @@ pub fn control(
     ensures { λ r. ⌜ record { refusal = r; state = now (words .exit); places = now (rx .exit); out = now (out .exit) }
         ≡ controlLeft (now (words .entry)) (now (rx .entry)) (now (tx .entry)) (controlsOf disabled start auto) ⌝ }
 {
-    let bad = refusals::no_link(words) | refusals::bad_record(words);
-    let sizes = refusals::bad_sizes(rx.len(), tx.len());
-    let stores = refusals::bad_stores(words, rx.len(), tx.len());
-    let number = vocabulary::lent(bad, sizes, stores, 0);
-    if number == 0 {
-        hosts::set_controls(words, disabled, start, auto);
-        let discarded = recovery::settle(Event::Quiet, words, rx, tx);
-        *out = [discarded];
-        0
-    } else {
-        *out = [0];
-        number as u32
+    *out = [0];
+    if refusals::no_link(words) {
+        return STATE as u32;
     }
+    if refusals::bad_record(words) {
+        return STATE as u32;
+    }
+    if refusals::bad_sizes(rx.len(), tx.len()) {
+        return STORE as u32;
+    }
+    if refusals::bad_stores(words, rx.len(), tx.len()) {
+        return STATE as u32;
+    }
+    hosts::set_controls(words, disabled, start, auto);
+    let discarded = recovery::settle(Event::Quiet, words, rx, tx);
+    *out = [discarded];
+    0
 }
 
 // The token that is due: `out` gets the discarded, the token's number, 0 for none, and its value.
@@ -145,22 +163,26 @@ pub fn send(words: &mut Words, rx: &mut [u16], tx: &[u16], out: &mut [u32; 3]) -
     ensures { λ r. ⌜ record { refusal = r; state = now (words .exit); places = now (rx .exit); out = now (out .exit) }
         ≡ sendLeft (now (words .entry)) (now (rx .entry)) (now (tx .entry)) ⌝ }
 {
-    let bad = refusals::no_link(words) | refusals::bad_record(words);
-    let sizes = refusals::bad_sizes(rx.len(), tx.len());
-    let stores = refusals::bad_stores(words, rx.len(), tx.len());
-    let number = vocabulary::lent(bad, sizes, stores, 0);
-    if number == 0 {
-        let sent = send::choose(words, rx.len(), tx);
-        send::book(words, tx, sent);
-        let discarded = recovery::settle(Event::Quiet, words, rx, tx);
-        let kind = send::sent_kind(sent) as u32;
-        let value = send::sent_value(sent) as u32;
-        *out = [discarded, kind, value];
-        0
-    } else {
-        *out = [0, 0, 0];
-        number as u32
+    *out = [0, 0, 0];
+    if refusals::no_link(words) {
+        return STATE as u32;
     }
+    if refusals::bad_record(words) {
+        return STATE as u32;
+    }
+    if refusals::bad_sizes(rx.len(), tx.len()) {
+        return STORE as u32;
+    }
+    if refusals::bad_stores(words, rx.len(), tx.len()) {
+        return STATE as u32;
+    }
+    let sent = send::choose(words, rx.len(), tx);
+    send::book(words, tx, sent);
+    let discarded = recovery::settle(Event::Quiet, words, rx, tx);
+    let kind = send::sent_kind(sent) as u32;
+    let value = send::sent_value(sent) as u32;
+    *out = [discarded, kind, value];
+    0
 }
 
 fn time_in(time: &TimeWords) -> Time
@@ -192,25 +214,34 @@ pub fn receive(
     ensures { λ r. ⌜ record { refusal = r; state = now (words .exit); rx = now (rx .exit); time = now (time .exit); out = now (out .exit) }
         ≡ receiveLeft (now (words .entry)) (now (rx .entry)) (now (tx .entry)) (now (time .entry)) kind value ⌝ }
 {
-    let token = words::token_of(kind, value);
-    let char = refuse(vocabulary::bad_char(token), CHAR, 0);
-    let bad = refusals::no_link(words) | (refusals::bad_record(words) | refusals::bad_time(time));
-    let sizes = refusals::bad_sizes(rx.len(), tx.len());
-    let stores = refusals::bad_stores(words, rx.len(), tx.len());
-    let number = vocabulary::lent(bad, sizes, stores, char);
-    if number == 0 {
-        let heard = received::token(words, rx, time_in(time), token);
-        let event = heard.event;
-        let after = heard.time;
-        set_time(time, after);
-        let discarded = recovery::settle(event, words, rx, tx);
-        let tick = words::truth_word(heard.tick);
-        *out = [discarded, tick];
-        0
-    } else {
-        *out = [0, 0];
-        number as u32
+    *out = [0, 0];
+    if refusals::no_link(words) {
+        return STATE as u32;
     }
+    if refusals::bad_record(words) {
+        return STATE as u32;
+    }
+    if refusals::bad_time(time) {
+        return STATE as u32;
+    }
+    if refusals::bad_sizes(rx.len(), tx.len()) {
+        return STORE as u32;
+    }
+    if refusals::bad_stores(words, rx.len(), tx.len()) {
+        return STATE as u32;
+    }
+    let token = words::token_of(kind, value);
+    if vocabulary::bad_char(token) {
+        return CHAR as u32;
+    }
+    let heard = received::token(words, rx, time_in(time), token);
+    let event = heard.event;
+    let after = heard.time;
+    set_time(time, after);
+    let discarded = recovery::settle(event, words, rx, tx);
+    let tick = words::truth_word(heard.tick);
+    *out = [discarded, tick];
+    0
 }
 
 // The host puts an N-Char to be sent: `out` gets how many were discarded.
@@ -218,21 +249,29 @@ pub fn put(words: &mut Words, tx: &mut [u16], nchar: u32, out: &mut [u32; 1]) ->
     ensures { λ r. ⌜ record { refusal = r; state = now (words .exit); places = now (tx .exit); out = now (out .exit) }
         ≡ putLeft (now (words .entry)) (now (tx .entry)) nchar ⌝ }
 {
+    *out = [0];
     let n = words::fitted(nchar);
-    let full = refuse(refusals::no_place(words, tx.len()), FULL, 0);
-    let char = refuse(vocabulary::above_eep(n), CHAR, full);
-    let bad = refusals::no_link(words) | refusals::bad_record(words);
-    let size = refusals::bad_tx_size(tx.len());
-    let store = refusals::bad_transmit(words, tx.len());
-    let number = vocabulary::lent(bad, size, store, char);
-    if number == 0 {
-        let discarded = hosts::put_one(words, tx, n);
-        *out = [discarded];
-        0
-    } else {
-        *out = [0];
-        number as u32
+    if refusals::no_link(words) {
+        return STATE as u32;
     }
+    if refusals::bad_record(words) {
+        return STATE as u32;
+    }
+    if refusals::bad_tx_size(tx.len()) {
+        return STORE as u32;
+    }
+    if refusals::bad_transmit(words, tx.len()) {
+        return STATE as u32;
+    }
+    if vocabulary::above_eep(n) {
+        return CHAR as u32;
+    }
+    if refusals::no_place(words, tx.len()) {
+        return FULL as u32;
+    }
+    let discarded = hosts::put_one(words, tx, n);
+    *out = [discarded];
+    0
 }
 
 // The host takes an N-Char that was received: `out` gets the discarded, always 0, and the N-Char.
@@ -240,19 +279,25 @@ pub fn take(words: &mut Words, rx: &[u16], out: &mut [u32; 2]) -> u32
     ensures { λ r. ⌜ record { refusal = r; state = now (words .exit); out = now (out .exit) }
         ≡ takeLeft (now (words .entry)) (now (rx .entry)) ⌝ }
 {
-    let empty = refuse(refusals::is_empty(words), EMPTY, 0);
-    let bad = refusals::no_link(words) | refusals::bad_record(words);
-    let size = refusals::bad_rx_size(rx.len());
-    let store = refusals::bad_receive(words, rx.len());
-    let number = vocabulary::lent(bad, size, store, empty);
-    if number == 0 {
-        let nchar = hosts::take_one(words, rx) as u32;
-        *out = [0, nchar];
-        0
-    } else {
-        *out = [0, 0];
-        number as u32
+    *out = [0, 0];
+    if refusals::no_link(words) {
+        return STATE as u32;
     }
+    if refusals::bad_record(words) {
+        return STATE as u32;
+    }
+    if refusals::bad_rx_size(rx.len()) {
+        return STORE as u32;
+    }
+    if refusals::bad_receive(words, rx.len()) {
+        return STATE as u32;
+    }
+    if refusals::is_empty(words) {
+        return EMPTY as u32;
+    }
+    let nchar = hosts::take_one(words, rx) as u32;
+    *out = [0, nchar];
+    0
 }
 
 // The host offers a Time-Code, which waits until the next send in Run: `out` gets the discarded, always 0.
@@ -260,14 +305,16 @@ pub fn offer(words: &mut Words, code: u8, out: &mut [u32; 1]) -> u32
     ensures { λ r. ⌜ record { refusal = r; state = now (words .exit); out = now (out .exit) }
         ≡ offerLeft (now (words .entry)) code ⌝ }
 {
-    let outside = refuse(!fields::is_in(words, LinkState::Run), NOTRUN, 0);
-    let bad = refusals::no_link(words) | refusals::bad_record(words);
-    let number = refuse(bad, STATE, outside);
     *out = [0];
-    if number == 0 {
-        hosts::offer_code(words, code);
-        0
-    } else {
-        number as u32
+    if refusals::no_link(words) {
+        return STATE as u32;
     }
+    if refusals::bad_record(words) {
+        return STATE as u32;
+    }
+    if !fields::is_in(words, LinkState::Run) {
+        return NOTRUN as u32;
+    }
+    hosts::offer_code(words, code);
+    0
 }

@@ -4,8 +4,6 @@ use mathlib.Core.Path.{_≡_, sym, _∙_}
 use Rattle.promises.specs.OneAnswer.{OneResult}
 use Rattle.vocabulary.proofs.refuse.Kinds as refuse-kinds
 use Rattle.vocabulary.proofs.refuse.Reads as refuse-reads
-use Rattle.vocabulary.proofs.lent.Kinds as lent-kinds
-use Rattle.vocabulary.proofs.lent.Reads as lent-reads
 use Rattle.vocabulary.proofs.read_as.Kinds as read-as-kinds
 use Rattle.vocabulary.proofs.read_as.Reads as read-as-reads
 use Rattle.vocabulary.proofs.is_end.Kinds as is-end-kinds
@@ -21,9 +19,6 @@ use Rattle.vocabulary.proofs.value.Reads as value-reads
 
 pub refuse : OneResult 0 refuse-kinds.ps refuse-kinds.r refuse-reads.Post
 refuse κs a x y s t p q = p ∙ sym q
-
-pub lent : OneResult 0 lent-kinds.ps lent-kinds.r lent-reads.Post
-lent κs a x y s t p q = p ∙ sym q
 
 pub read-as : OneResult 0 read-as-kinds.ps read-as-kinds.r read-as-reads.Post
 read-as κs a x y s t p q = p ∙ sym q

@@ -45,17 +45,6 @@ pub fn refuse(applies: bool, number: u8, later: u8) -> u8
     if applies { number } else { later }
 }
 
-// The tests of what a call is lent: STATE, STORE, and STATE where a store's size is needed; else what the later tests say.
-pub fn lent(state: bool, store: bool, sized: bool, later: u8) -> u8
-    ensures { λ r. ⌜ r ≡ pick state 1 (pick store 2 (pick sized 1 later)) ⌝ }
-{
-    refuse(
-        state,
-        STATE,
-        refuse(store, STORE, refuse(sized, STATE, later)),
-    )
-}
-
 // A stored number as it is read: 258 and above are an EEP.
 pub fn read_as(stored: u16) -> u16
     ensures { λ r. ⌜ r ≡ readAs stored ⌝ }

@@ -9,9 +9,9 @@ use Rattle.link.specs.Recovery.{settles}
 use Rattle.link.specs.Calls.{controlOutcome, withLink}
 use Rattle.link.specs.LinkWords.{linkOf}
 use Rattle.link.specs.LinkCalls.{controlLeft, controlsOf, endOf}
-use Rattle.link.proofs.LinkLaws.{state-small}
+use Rattle.link.proofs.LinkLaws.{own-words, state-small}
 use Rattle.link.proofs.RefusedLaws as refused
-use Rattle.link.proofs.CallLaws.{both-of, accepted-left, refused-left}
+use Rattle.link.proofs.CallLaws.{linked, unlinked, accepted-left, refused-as}
 use Rattle.link.proofs.calls.control.Statement.{statement}
 use Rattle.link.proofs.calls.control.Tie as tie
 
@@ -21,49 +21,82 @@ control-spec =
     tie.close
     (tie.spec
     (λ c κs. search needs)
+    (λ c. search needs)
+    (λ c.
+    let n = c .before in
+    let a = n .before .before .before .before .before .before .args in
+    refused-as (a .words .now) (a .rx .now) (a .tx .now) (settles Quiet (withLink (endOf (a .words .now) (a .rx .now) (a .tx .now)) (withControls (linkOf (a .words .now)) (controlsOf (a .disabled) (a .start) (a .auto))))) 0 (rw (unlinked (a .words .now) (n .no-link .ensures) (c .if1 .taken))))
     (λ c κs. search needs)
+    (λ c. search needs)
+    (λ c.
+    let b = c .before in
+    let n = b .before .before .before in
+    let a = n .before .before .before .before .before .before .args in
+    let l = linkOf (a .words .now) in
+    let link = linked (a .words .now) (n .no-link .ensures) (b .before .before .if1 .left) in
+    let own = own-words (a .words .now) link in
+    let record-said = sym (b .bad-record .ensures l own) ∙ c .if2 .taken in
+    refused-as (a .words .now) (a .rx .now) (a .tx .now) (settles Quiet (withLink (endOf (a .words .now) (a .rx .now) (a .tx .now)) (withControls (linkOf (a .words .now)) (controlsOf (a .disabled) (a .start) (a .auto))))) 0 (rw (link, record-said)))
     (λ c κs. search needs)
+    (λ c. search needs)
+    (λ c.
+    let z = c .before in
+    let b = z .before .before in
+    let n = b .before .before .before in
+    let a = n .before .before .before .before .before .before .args in
+    let l = linkOf (a .words .now) in
+    let link = linked (a .words .now) (n .no-link .ensures) (b .before .before .if1 .left) in
+    let own = own-words (a .words .now) link in
+    let record-said = sym (b .bad-record .ensures l own) ∙ z .before .if2 .left in
+    let sizes-said = sym (z .bad-sizes .ensures) ∙ c .if3 .taken in
+    refused-as (a .words .now) (a .rx .now) (a .tx .now) (settles Quiet (withLink (endOf (a .words .now) (a .rx .now) (a .tx .now)) (withControls (linkOf (a .words .now)) (controlsOf (a .disabled) (a .start) (a .auto))))) 1 (rw (link, record-said, sizes-said)))
     (λ c κs. search needs)
-    (λ c κs. search needs)
+    (λ c. search needs)
+    (λ c.
+    let s = c .before in
+    let z = s .before .before .before in
+    let b = z .before .before in
+    let n = b .before .before .before in
+    let a = n .before .before .before .before .before .before .args in
+    let l = linkOf (a .words .now) in
+    let link = linked (a .words .now) (n .no-link .ensures) (b .before .before .if1 .left) in
+    let own = own-words (a .words .now) link in
+    let record-said = sym (b .bad-record .ensures l own) ∙ z .before .if2 .left in
+    let sizes-said = sym (z .bad-sizes .ensures) ∙ s .before .before .if3 .left in
+    let stores-said = sym (s .bad-stores .ensures l own) ∙ c .if4 .taken in
+    refused-as (a .words .now) (a .rx .now) (a .tx .now) (settles Quiet (withLink (endOf (a .words .now) (a .rx .now) (a .tx .now)) (withControls (linkOf (a .words .now)) (controlsOf (a .disabled) (a .start) (a .auto))))) 0 (rw (link, record-said, sizes-said, stores-said)))
     (λ c κs. search needs)
     (λ c κs.
     let k = c .before .before in
-    let t = k .before .before .before in
-    let r = t .before .before .before .before in
-    let n = r .before .before in
-    let a = n .before .before .before .before .before .args in
-    let number = t .lent .ensures
-    ∙ both-of (a .words .now) (length (a .rx .now)) (length (a .tx .now)) (n .no-link .ensures) (r .bad-record .ensures)
-    (t .before .before .before .bad-sizes .ensures) (t .before .bad-stores .ensures) in
-    let passed = refused.both (a .words .now) (length (a .rx .now)) (length (a .tx .now)) (sym number ∙ k .before .before .if1 .taken) in
-    state-small _ (withControls (linkOf (a .words .now)) (controlsOf (a .disabled) (a .start) (a .auto)))
-    (k .set-controls .ensures (linkOf (a .words .now)) (passed .0 .own)))
-    (λ c. search needs)
+    let s = k .before .before .before in
+    let z = s .before .before .before in
+    let b = z .before .before in
+    let n = b .before .before .before in
+    let a = n .before .before .before .before .before .before .args in
+    let l = linkOf (a .words .now) in
+    let link = linked (a .words .now) (n .no-link .ensures) (b .before .before .if1 .left) in
+    let own = own-words (a .words .now) link in
+    let record-said = sym (b .bad-record .ensures l own) ∙ z .before .if2 .left in
+    let sizes-said = sym (z .bad-sizes .ensures) ∙ s .before .before .if3 .left in
+    let stores-said = sym (s .bad-stores .ensures l own) ∙ k .before .before .if4 .left in
+    let passed = refused.both (a .words .now) (length (a .rx .now)) (length (a .tx .now)) (rw (link, record-said, sizes-said, stores-said)) in
+    state-small _ (withControls l (controlsOf (a .disabled) (a .start) (a .auto))) (k .set-controls .ensures l own))
     (λ c. search needs)
     (λ c.
-    let s = c .before .before .before in
-    let k = s .before .before .before in
-    let t = k .before .before .before in
-    let r = t .before .before .before .before in
-    let n = r .before .before in
-    let a = n .before .before .before .before .before .args in
-    let number = t .lent .ensures
-    ∙ both-of (a .words .now) (length (a .rx .now)) (length (a .tx .now)) (n .no-link .ensures) (r .bad-record .ensures)
-    (t .before .before .before .bad-sizes .ensures) (t .before .bad-stores .ensures) in
-    let passed = refused.both (a .words .now) (length (a .rx .now)) (length (a .tx .now)) (sym number ∙ k .before .before .if1 .taken) in
-    let l = withControls (linkOf (a .words .now)) (controlsOf (a .disabled) (a .start) (a .auto)) in
-    let left = s .settle .ensures (passed .1) (passed .2) l (k .set-controls .ensures (linkOf (a .words .now)) (passed .0 .own)) in
+    let e = c .before .before .before in
+    let k = e .before .before .before in
+    let s = k .before .before .before in
+    let z = s .before .before .before in
+    let b = z .before .before in
+    let n = b .before .before .before in
+    let a = n .before .before .before .before .before .before .args in
+    let l = linkOf (a .words .now) in
+    let link = linked (a .words .now) (n .no-link .ensures) (b .before .before .if1 .left) in
+    let own = own-words (a .words .now) link in
+    let record-said = sym (b .bad-record .ensures l own) ∙ z .before .if2 .left in
+    let sizes-said = sym (z .bad-sizes .ensures) ∙ s .before .before .if3 .left in
+    let stores-said = sym (s .bad-stores .ensures l own) ∙ k .before .before .if4 .left in
+    let passed = refused.both (a .words .now) (length (a .rx .now)) (length (a .tx .now)) (rw (link, record-said, sizes-said, stores-said)) in
+    let left = e .settle .ensures (passed .1) (passed .2) (withControls l (controlsOf (a .disabled) (a .start) (a .auto))) (k .set-controls .ensures l own) in
     rw (left .0, left .1, left .2)
-    (sym (accepted-left (a .words .now) (a .rx .now) (a .tx .now)
-    (settles Quiet (withLink (endOf (a .words .now) (a .rx .now) (a .tx .now)) l)) (passed .0 .is-link) (passed .0 .passes))))
-    (λ c.
-    let t = c .before .before in
-    let r = t .before .before .before .before in
-    let n = r .before .before in
-    let a = n .before .before .before .before .before .args in
-    let number = t .lent .ensures
-    ∙ both-of (a .words .now) (length (a .rx .now)) (length (a .tx .now)) (n .no-link .ensures) (r .bad-record .ensures)
-    (t .before .before .before .bad-sizes .ensures) (t .before .bad-stores .ensures) in
-    rw number (sym (refused-left (a .words .now) (a .rx .now) (a .tx .now)
-    (settles Quiet (withLink (endOf (a .words .now) (a .rx .now) (a .tx .now)) (withControls (linkOf (a .words .now)) (controlsOf (a .disabled) (a .start) (a .auto)))))
-    (λ z. c .before .if1 .left (number ∙ z))))))
+    (sym (accepted-left (a .words .now) (a .rx .now) (a .tx .now) (settles Quiet (withLink (endOf (a .words .now) (a .rx .now) (a .tx .now)) (withControls l (controlsOf (a .disabled) (a .start) (a .auto))))) link (passed .0 .passes)))))

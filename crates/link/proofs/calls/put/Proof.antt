@@ -1,15 +1,15 @@
--- `link::calls::put` meets its contract: the N-Char is put where no test applies.
+-- `link::calls::put` meets its contract: the N-Char is stored or discarded.
 -- Assumes nothing.
 use borrow.Author.Needs.{needs}
-use mathlib.Core.Path.{sym, _∙_}
-use lib.ListN.{length, drop}
-use Rattle.vocabulary.specs.Refusals.{firstOf}
+use mathlib.Core.Path.{sym, ap, _∙_}
+use lib.ListN.{length}
+use Rattle.vocabulary.specs.NChars.{aboveEEP}
 use Rattle.words.specs.Arguments.{fitted}
-use Rattle.link.specs.Records.{Link}
-use Rattle.link.specs.Refusals.{putTests}
 use Rattle.link.specs.LinkWords.{linkOf}
+use Rattle.link.proofs.LinkLaws.{own-words}
 use Rattle.link.proofs.RefusedLaws as refused
-use Rattle.link.proofs.HostCallLaws.{put-accepted, put-refused}
+use Rattle.link.proofs.CallLaws.{linked, unlinked}
+use Rattle.link.proofs.HostCallLaws.{put-accepted, put-refused-as}
 use Rattle.link.proofs.calls.put.Statement.{statement}
 use Rattle.link.proofs.calls.put.Tie as tie
 
@@ -19,67 +19,107 @@ put-spec =
     (tie.spec
     (λ c κs. search needs)
     (λ c κs. search needs)
-    (λ c κs. search needs)
-    (λ c κs. search needs)
-    (λ c κs. search needs)
-    (λ c κs. search needs)
-    (λ c κs. search needs)
-    (λ c κs. search needs)
-    (λ c κs. search needs)
-    (λ c κs. search needs)
-    (λ c κs. search needs)
-    (λ c. search needs)
     (λ c. search needs)
     (λ c.
-    let p = c .before .before .before in
-    let t = p .before .before .before .before in
-    let r = t .before .before .before .before in
-    let n = r .before .before in
-    let above = n .before .before .before .before in
-    let place = above .before .before in
-    let f = place .before .before in
-    let a = f .before .before .args in
-    let number = t .lent .ensures
-    ∙ refused.of-end (a .words .now)
-    (λ (l : Link). firstOf (drop 1 (putTests (length (a .tx .now)) l (fitted (a .nchar)))))
-    (n .no-link .ensures) (r .bad-record .ensures)
-    (λ l e.
-    rw (
-      t .before .before .before .bad-tx-size .ensures,
-      t .before .bad-transmit .ensures l e,
-      n .before .before .before .refuse2 .ensures,
-      above .above-eep .ensures,
-      f .fitted .ensures,
-      above .before .refuse .ensures,
-      place .no-place .ensures l e,
-    )) in
-    let passed = refused.put (a .words .now) (length (a .tx .now)) (fitted (a .nchar))
-    (sym number ∙ p .before .before .before .if1 .taken) in
+    let n = c .before in
+    let a = n .before .before .before .before .before .before .args in
+    put-refused-as (a .words .now) (a .tx .now) (a .nchar) 0 (rw (unlinked (a .words .now) (n .no-link .ensures) (c .if1 .taken))))
+    (λ c κs. search needs)
+    (λ c. search needs)
+    (λ c.
+    let b = c .before in
+    let n = b .before .before .before in
+    let a = n .before .before .before .before .before .before .args in
     let l = linkOf (a .words .now) in
-    let own = passed .0 .own in
-    let left = p .put-one .ensures in
-    rw (left .0 (passed .1) l own, left .1 l own, left .2 l own, f .fitted .ensures)
-    (sym (put-accepted (a .words .now) (a .tx .now) (a .nchar) (passed .0 .is-link) (passed .0 .passes))))
+    let link = linked (a .words .now) (n .no-link .ensures) (b .before .before .if1 .left) in
+    let own = own-words (a .words .now) link in
+    let record-said = sym (b .bad-record .ensures l own) ∙ c .if2 .taken in
+    put-refused-as (a .words .now) (a .tx .now) (a .nchar) 0 (rw (link, record-said)))
+    (λ c κs. search needs)
+    (λ c. search needs)
     (λ c.
-    let t = c .before .before in
-    let r = t .before .before .before .before in
-    let n = r .before .before in
-    let above = n .before .before .before .before in
-    let place = above .before .before in
-    let f = place .before .before in
-    let a = f .before .before .args in
-    let number = t .lent .ensures
-    ∙ refused.of-end (a .words .now)
-    (λ (l : Link). firstOf (drop 1 (putTests (length (a .tx .now)) l (fitted (a .nchar)))))
-    (n .no-link .ensures) (r .bad-record .ensures)
-    (λ l e.
-    rw (
-      t .before .before .before .bad-tx-size .ensures,
-      t .before .bad-transmit .ensures l e,
-      n .before .before .before .refuse2 .ensures,
-      above .above-eep .ensures,
-      f .fitted .ensures,
-      above .before .refuse .ensures,
-      place .no-place .ensures l e,
-    )) in
-    rw number (sym (put-refused (a .words .now) (a .tx .now) (a .nchar) (λ z. c .before .if1 .left (number ∙ z))))))
+    let z = c .before in
+    let b = z .before .before in
+    let n = b .before .before .before in
+    let a = n .before .before .before .before .before .before .args in
+    let l = linkOf (a .words .now) in
+    let link = linked (a .words .now) (n .no-link .ensures) (b .before .before .if1 .left) in
+    let own = own-words (a .words .now) link in
+    let record-said = sym (b .bad-record .ensures l own) ∙ z .before .if2 .left in
+    let size-said = sym (z .bad-tx-size .ensures) ∙ c .if3 .taken in
+    put-refused-as (a .words .now) (a .tx .now) (a .nchar) 1 (rw (link, record-said, size-said)))
+    (λ c κs. search needs)
+    (λ c. search needs)
+    (λ c.
+    let s = c .before in
+    let z = s .before .before .before in
+    let b = z .before .before in
+    let n = b .before .before .before in
+    let a = n .before .before .before .before .before .before .args in
+    let l = linkOf (a .words .now) in
+    let link = linked (a .words .now) (n .no-link .ensures) (b .before .before .if1 .left) in
+    let own = own-words (a .words .now) link in
+    let record-said = sym (b .bad-record .ensures l own) ∙ z .before .if2 .left in
+    let size-said = sym (z .bad-tx-size .ensures) ∙ s .before .before .if3 .left in
+    let store-said = sym (s .bad-transmit .ensures l own) ∙ c .if4 .taken in
+    put-refused-as (a .words .now) (a .tx .now) (a .nchar) 0 (rw (link, record-said, size-said, store-said)))
+    (λ c κs. search needs)
+    (λ c. search needs)
+    (λ c.
+    let h = c .before in
+    let s = h .before .before in
+    let z = s .before .before .before in
+    let b = z .before .before in
+    let n = b .before .before .before in
+    let a = n .before .before .before .before .before .before .args in
+    let l = linkOf (a .words .now) in
+    let link = linked (a .words .now) (n .no-link .ensures) (b .before .before .if1 .left) in
+    let own = own-words (a .words .now) link in
+    let record-said = sym (b .bad-record .ensures l own) ∙ z .before .if2 .left in
+    let size-said = sym (z .bad-tx-size .ensures) ∙ s .before .before .if3 .left in
+    let store-said = sym (s .bad-transmit .ensures l own) ∙ h .before .if4 .left in
+    let char-said = ap aboveEEP (sym (n .before .before .before .fitted .ensures)) ∙ sym (h .above-eep .ensures) ∙ c .if5 .taken in
+    put-refused-as (a .words .now) (a .tx .now) (a .nchar) 4 (rw (link, record-said, size-said, store-said, char-said)))
+    (λ c κs. search needs)
+    (λ c. search needs)
+    (λ c.
+    let i = c .before in
+    let h = i .before .before .before in
+    let s = h .before .before in
+    let z = s .before .before .before in
+    let b = z .before .before in
+    let n = b .before .before .before in
+    let a = n .before .before .before .before .before .before .args in
+    let l = linkOf (a .words .now) in
+    let link = linked (a .words .now) (n .no-link .ensures) (b .before .before .if1 .left) in
+    let own = own-words (a .words .now) link in
+    let record-said = sym (b .bad-record .ensures l own) ∙ z .before .if2 .left in
+    let size-said = sym (z .bad-tx-size .ensures) ∙ s .before .before .if3 .left in
+    let store-said = sym (s .bad-transmit .ensures l own) ∙ h .before .if4 .left in
+    let char-said = ap aboveEEP (sym (n .before .before .before .fitted .ensures)) ∙ sym (h .above-eep .ensures) ∙ i .before .before .if5 .left in
+    let place-said = sym (i .no-place .ensures l own) ∙ c .if6 .taken in
+    put-refused-as (a .words .now) (a .tx .now) (a .nchar) 9 (rw (link, record-said, size-said, store-said, char-said, place-said)))
+    (λ c κs. search needs)
+    (λ c. search needs)
+    (λ c.
+    let e = c .before .before .before in
+    let i = e .before .before .before .before in
+    let h = i .before .before .before in
+    let s = h .before .before in
+    let z = s .before .before .before in
+    let b = z .before .before in
+    let n = b .before .before .before in
+    let a = n .before .before .before .before .before .before .args in
+    let l = linkOf (a .words .now) in
+    let link = linked (a .words .now) (n .no-link .ensures) (b .before .before .if1 .left) in
+    let own = own-words (a .words .now) link in
+    let record-said = sym (b .bad-record .ensures l own) ∙ z .before .if2 .left in
+    let size-said = sym (z .bad-tx-size .ensures) ∙ s .before .before .if3 .left in
+    let store-said = sym (s .bad-transmit .ensures l own) ∙ h .before .if4 .left in
+    let char-said = ap aboveEEP (sym (n .before .before .before .fitted .ensures)) ∙ sym (h .above-eep .ensures) ∙ i .before .before .if5 .left in
+    let place-said = sym (i .no-place .ensures l own) ∙ e .before .before .before .if6 .left in
+    let passed = refused.put (a .words .now) (length (a .tx .now)) (fitted (a .nchar))
+    (rw (link, record-said, size-said, store-said, char-said, place-said)) in
+    let left = rw (n .before .before .before .fitted .ensures) at (e .put-one .ensures) in
+    rw (left .0 (passed .1) l own, left .1 l own, left .2 l own)
+    (sym (put-accepted (a .words .now) (a .tx .now) (a .nchar) link (passed .0 .passes)))))

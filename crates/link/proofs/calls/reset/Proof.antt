@@ -7,8 +7,9 @@ use Rattle.link.specs.Reset.{resets}
 use Rattle.link.specs.Calls.{resetOutcome}
 use Rattle.link.specs.LinkWords.{linkOf}
 use Rattle.link.specs.LinkCalls.{resetLeft, endOf}
+use Rattle.link.proofs.LinkLaws.{own-words}
 use Rattle.link.proofs.RefusedLaws as refused
-use Rattle.link.proofs.CallLaws.{both-of, accepted-left, refused-left}
+use Rattle.link.proofs.CallLaws.{linked, unlinked, accepted-left, refused-as}
 use Rattle.link.proofs.calls.reset.Statement.{statement}
 use Rattle.link.proofs.calls.reset.Tie as tie
 
@@ -18,35 +19,66 @@ reset-spec =
     tie.close
     (tie.spec
     (λ c κs. search needs)
-    (λ c κs. search needs)
-    (λ c κs. search needs)
-    (λ c κs. search needs)
-    (λ c κs. search needs)
-    (λ c κs. search needs)
-    (λ c. search needs)
     (λ c. search needs)
     (λ c.
-    let s = c .before .before .before in
-    let t = s .before .before .before .before in
-    let r = t .before .before .before .before in
-    let n = r .before .before in
-    let a = n .before .before .before .before .before .args in
-    let number = t .lent .ensures
-    ∙ both-of (a .words .now) (length (a .rx .now)) (length (a .tx .now)) (n .no-link .ensures) (r .bad-record .ensures)
-    (t .before .before .before .bad-sizes .ensures) (t .before .bad-stores .ensures) in
-    let passed = refused.both (a .words .now) (length (a .rx .now)) (length (a .tx .now)) (sym number ∙ s .before .before .before .if1 .taken) in
-    let left = s .reset-all .ensures in
-    let own = passed .0 .own in
+    let n = c .before in
+    let a = n .before .before .before .before .before .before .args in
+    refused-as (a .words .now) (a .rx .now) (a .tx .now) (resets (a .rx .now) (linkOf (a .words .now))) 0 (rw (unlinked (a .words .now) (n .no-link .ensures) (c .if1 .taken))))
+    (λ c κs. search needs)
+    (λ c. search needs)
+    (λ c.
+    let b = c .before in
+    let n = b .before .before .before in
+    let a = n .before .before .before .before .before .before .args in
     let l = linkOf (a .words .now) in
-    rw (left .0 (passed .1) l own, left .1 l own, left .2 l own)
-    (sym (accepted-left (a .words .now) (a .rx .now) (a .tx .now) (resets (a .rx .now) l) (passed .0 .is-link) (passed .0 .passes))))
+    let link = linked (a .words .now) (n .no-link .ensures) (b .before .before .if1 .left) in
+    let own = own-words (a .words .now) link in
+    let record-said = sym (b .bad-record .ensures l own) ∙ c .if2 .taken in
+    refused-as (a .words .now) (a .rx .now) (a .tx .now) (resets (a .rx .now) (linkOf (a .words .now))) 0 (rw (link, record-said)))
+    (λ c κs. search needs)
+    (λ c. search needs)
     (λ c.
-    let t = c .before .before in
-    let r = t .before .before .before .before in
-    let n = r .before .before in
-    let a = n .before .before .before .before .before .args in
-    let number = t .lent .ensures
-    ∙ both-of (a .words .now) (length (a .rx .now)) (length (a .tx .now)) (n .no-link .ensures) (r .bad-record .ensures)
-    (t .before .before .before .bad-sizes .ensures) (t .before .bad-stores .ensures) in
-    rw number (sym (refused-left (a .words .now) (a .rx .now) (a .tx .now) (resets (a .rx .now) (linkOf (a .words .now)))
-    (λ z. c .before .if1 .left (number ∙ z))))))
+    let z = c .before in
+    let b = z .before .before in
+    let n = b .before .before .before in
+    let a = n .before .before .before .before .before .before .args in
+    let l = linkOf (a .words .now) in
+    let link = linked (a .words .now) (n .no-link .ensures) (b .before .before .if1 .left) in
+    let own = own-words (a .words .now) link in
+    let record-said = sym (b .bad-record .ensures l own) ∙ z .before .if2 .left in
+    let sizes-said = sym (z .bad-sizes .ensures) ∙ c .if3 .taken in
+    refused-as (a .words .now) (a .rx .now) (a .tx .now) (resets (a .rx .now) (linkOf (a .words .now))) 1 (rw (link, record-said, sizes-said)))
+    (λ c κs. search needs)
+    (λ c. search needs)
+    (λ c.
+    let s = c .before in
+    let z = s .before .before .before in
+    let b = z .before .before in
+    let n = b .before .before .before in
+    let a = n .before .before .before .before .before .before .args in
+    let l = linkOf (a .words .now) in
+    let link = linked (a .words .now) (n .no-link .ensures) (b .before .before .if1 .left) in
+    let own = own-words (a .words .now) link in
+    let record-said = sym (b .bad-record .ensures l own) ∙ z .before .if2 .left in
+    let sizes-said = sym (z .bad-sizes .ensures) ∙ s .before .before .if3 .left in
+    let stores-said = sym (s .bad-stores .ensures l own) ∙ c .if4 .taken in
+    refused-as (a .words .now) (a .rx .now) (a .tx .now) (resets (a .rx .now) (linkOf (a .words .now))) 0 (rw (link, record-said, sizes-said, stores-said)))
+    (λ c κs. search needs)
+    (λ c. search needs)
+    (λ c.
+    let e = c .before .before .before in
+    let s = e .before .before .before .before in
+    let z = s .before .before .before in
+    let b = z .before .before in
+    let n = b .before .before .before in
+    let a = n .before .before .before .before .before .before .args in
+    let l = linkOf (a .words .now) in
+    let link = linked (a .words .now) (n .no-link .ensures) (b .before .before .if1 .left) in
+    let own = own-words (a .words .now) link in
+    let record-said = sym (b .bad-record .ensures l own) ∙ z .before .if2 .left in
+    let sizes-said = sym (z .bad-sizes .ensures) ∙ s .before .before .if3 .left in
+    let stores-said = sym (s .bad-stores .ensures l own) ∙ e .before .before .before .if4 .left in
+    let passed = refused.both (a .words .now) (length (a .rx .now)) (length (a .tx .now)) (rw (link, record-said, sizes-said, stores-said)) in
+    let left = e .reset-all .ensures in
+    rw (left .0 (passed .1) l own, left .1 l own, left .2 l own)
+    (sym (accepted-left (a .words .now) (a .rx .now) (a .tx .now) (resets (a .rx .now) l) link (passed .0 .passes)))))
