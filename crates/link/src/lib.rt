@@ -1,5 +1,6 @@
 // A link end (01, The link end): its state is an array of words that the caller owns, and the places of its two stores are
 // lent. Every call works on the words in place.
+#![tactic(auto)]
 use time::Time;
 use vocabulary::Token;
 
@@ -13,7 +14,7 @@ mod recovery;
 mod refusals;
 mod send;
 
-#[derive(Drop)]
+#[derive(Clone, Copy, Drop)]
 pub enum LinkState {
     ErrorReset,
     ErrorWait,
@@ -24,7 +25,7 @@ pub enum LinkState {
 }
 
 // What happened, as the table of moves sees it.
-#[derive(Drop)]
+#[derive(Clone, Copy, Drop)]
 pub enum Event {
     Quiet,
     Fault,
@@ -34,7 +35,7 @@ pub enum Event {
     CreditError,
 }
 
-#[derive(Drop)]
+#[derive(Clone, Copy, Drop)]
 pub enum FaultKind {
     ParityFault,
     EscapeFault,
@@ -42,14 +43,14 @@ pub enum FaultKind {
 }
 
 // The two counters are types of their own, so that neither can be passed for the other.
-#[derive(Drop)]
+#[derive(Clone, Copy, Drop)]
 pub struct Held(pub u8);
 
-#[derive(Drop)]
+#[derive(Clone, Copy, Drop)]
 pub struct GivenOut(pub u8);
 
 // What goes out on a send.
-#[derive(Drop)]
+#[derive(Clone, Copy, Drop)]
 pub enum Sent {
     Silence,
     Sends(Token),
@@ -57,7 +58,7 @@ pub enum Sent {
 
 // What a received token comes to, beside its effect on the words: the event that the table sees, the time record after it,
 // and whether it gives a tick out.
-#[derive(Drop)]
+#[derive(Clone, Copy, Drop)]
 pub struct Heard {
     pub event: Event,
     pub time: Time,

@@ -1,6 +1,7 @@
 // Two link ends joined by wires: both come to Run, a packet goes over, a fault takes one end down in
 // mid-packet, and the far host finds the packet closed by an EEP. Each line says what was done and what
 // the two ends answered.
+#![tactic(auto)]
 use libc::STDOUT_FILENO;
 use link::calls;
 use link::fields::{STATE, TIME_WORDS, TimeWords, WORDS, Words};

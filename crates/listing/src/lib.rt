@@ -1,4 +1,5 @@
 // The listing of a capture (01, The listing): ASCII bits in, one line of text for each report out.
+#![tactic(auto)]
 ghost use Rattle.std.specs.Prelude.{◌≡◌, [], ◌∷◌, false, true, ◌+◌, ◌<◌, ◌^◌, length};
 ghost use Rattle.vocabulary.specs.declared.Token.{Token};
 ghost use Rattle.characters.specs.States.{Fresh};
@@ -16,7 +17,7 @@ use characters::kinds::{ESCAPE_ERROR, FCT, N_CHAR, NULL, PARITY_ERROR, TIME_CODE
 pub const ROOM: usize = 163874;
 
 // A listing as far as its bits have been taken: the count of bits, and where in the buffer the next line goes.
-#[derive(Drop)]
+#[derive(Clone, Copy, Drop)]
 struct Listing {
     words: decoder::Words,
     count: usize,

@@ -1,4 +1,5 @@
 // Captures and their listings, one behind the other, each under its name.
+#![tactic(auto)]
 fn show(name: &[u8], capture: &[u8]) {
     let mut text = [0u8; listing::ROOM];
     let length = listing::render(capture, &mut text);

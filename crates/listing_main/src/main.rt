@@ -1,5 +1,6 @@
 // Lists the capture on standard input (01, The listing). One byte more than a listing takes is read: it tells a
 // long input.
+#![tactic(auto)]
 fn main() {
     let mut input = [0u8; 65537];
     let count = io::read_full(0, &mut input);

@@ -11,7 +11,7 @@ use router_ports::{Mode, Owner, PORTS, Wanted, Words};
 pub const WORDS: usize = 11;
 
 // Sets of inputs, bit i for input i: those that wait for a port's output, and those that have N-Chars waiting.
-#[derive(Drop)]
+#[derive(Clone, Copy, Drop)]
 pub struct Sets {
     pub wanted: u16,
     pub unread: u16,

@@ -1,4 +1,5 @@
 // Runs the router's examples of document 01 and five more, and writes what each run told and what each output holds.
+#![tactic(auto)]
 use router_ports::{PORTS, STORES, WORDS, Words};
 use router_table::{ROWS, Table};
 

@@ -1,5 +1,6 @@
 // The incident, replayed call by call. A is at port 1 and B at port 2, C comes to port 1 after A, and all of them send to
 // port 3. It writes what each run told, what is still held, and what output 3 holds.
+#![tactic(auto)]
 use router::held;
 use router_ports::{PORTS, STORES, WORDS, Words};
 use router_table::{ROWS, Table};

@@ -1,5 +1,6 @@
 // The router's eleven ports (01, The router) in the words that keep them: what is kept of each, and their 22 stores
 // in one lent area.
+#![tactic(auto)]
 ghost use Rattle.std.specs.Prelude.{◌≡◌, not, eqb, ltb, length, ℕ, ◌<◌, ◌^◌};
 ghost use Rattle.vocabulary.specs.Choice.{pick};
 ghost use Rattle.words.specs.Words.{word_at};
@@ -47,14 +48,14 @@ pub const WORDS: usize = STORES_AT + STORES * STORE_WORDS;
 pub type Words = [u32; WORDS];
 
 // The ports that an input waits for, bit p for port p, and at which priority.
-#[derive(Drop)]
+#[derive(Clone, Copy, Drop)]
 pub struct Wanted {
     pub ports: u16,
     pub high: bool,
 }
 
 // What an input does: nothing, wait, send to an output, or discard a packet through its end.
-#[derive(Drop)]
+#[derive(Clone, Copy, Drop)]
 pub enum Mode {
     Idle,
     Waiting(Wanted),
@@ -63,13 +64,13 @@ pub enum Mode {
 }
 
 // The input that an output is held by.
-#[derive(Drop)]
+#[derive(Clone, Copy, Drop)]
 pub enum Owner {
     Free,
     By(usize),
 }
 
-#[derive(Drop)]
+#[derive(Clone, Copy, Drop)]
 pub struct Output {
     pub owner: Owner,
     pub last: usize,

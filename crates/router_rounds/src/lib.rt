@@ -1,4 +1,5 @@
 // Rounds of the router (01, The router): three parts, each in port order, and a run of them, on the words that keep it.
+#![tactic(auto)]
 ghost use Rattle.std.specs.Prelude.{◌≡◌, ◌<◌, ◌^◌};
 ghost use Rattle.router_rounds.specs.Addresses.{part1};
 ghost use Rattle.router_rounds.specs.Grants.{part2};
@@ -16,7 +17,7 @@ mod quiet;
 
 // The counts so far, and whether the present round has changed anything. As wide as a register, so that a count stays
 // in one.
-#[derive(Drop)]
+#[derive(Clone, Copy, Drop)]
 pub struct Totals {
     pub rounds: usize,
     pub moved: usize,

@@ -1,4 +1,6 @@
 // The routing table (01, The router): 256 rows that the caller lends, and what a packet's first N-Char says.
+#![tactic(auto)]
+
 ghost use Rattle.std.specs.Prelude.{◌≡◌, ◌<◌};
 ghost use Rattle.router_table.specs.Rows.{fresh_table, requests, written_row, row_at, with_row, outside_rows};
 ghost use Rattle.router_table.specs.Rows.{deletes, is_high, is_invalid};
@@ -13,7 +15,7 @@ pub type Table = [u32; ROWS];
 const INVALID: u32 = 0x80000000;
 
 // Wanted ports, bit p for port p, at which priority, and whether the header is deleted.
-#[derive(Drop)]
+#[derive(Clone, Copy, Drop)]
 pub struct Direction {
     pub ports: u16,
     pub high: bool,
@@ -21,7 +23,7 @@ pub struct Direction {
 }
 
 // What the front N-Char of an idle input says.
-#[derive(Drop)]
+#[derive(Clone, Copy, Drop)]
 pub enum Heading {
     End,
     Nowhere,
@@ -129,6 +131,7 @@ fn row_heading(row: u32) -> Heading
     Heading::Ports(d)
 }
 
+#[tactic(auto, unfolding(crate::specs::Headings::address_heading))]
 fn address_heading(address: u8, table: &Table) -> Heading
     ensures { result ≡ address_heading table.now address }
 {

@@ -1,4 +1,6 @@
 // A ring of N-Chars: a record by value beside a lent slice of places. Every call takes any record and any slice.
+#![tactic(auto)]
+
 ghost use Rattle.std.specs.Prelude.{◌≡◌, false, ◌||◌, length, ltb};
 ghost use Rattle.store.specs.Ring.{around, waiting, bad_store, free, empty, full};
 ghost use Rattle.store.specs.Changes.{fresh_store, refuses_put, put_store, put_places, front_of, dropped};
@@ -6,14 +8,14 @@ ghost use Rattle.store.specs.Changes.{without_first, without_found, found_in, fo
 ghost use Rattle.store.specs.StoreWords.{store_words, store_of};
 
 // Where the first waiting N-Char stands, and how many wait.
-#[derive(Drop)]
+#[derive(Clone, Copy, Drop)]
 pub struct Store {
     pub front: usize,
     pub len: usize,
 }
 
 // How many N-Chars stand from the front through the first end, all where there is none.
-#[derive(Drop)]
+#[derive(Clone, Copy, Drop)]
 pub struct Found {
     pub count: usize,
     pub ended: bool,

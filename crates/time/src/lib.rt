@@ -1,8 +1,10 @@
 // The time counter (01, Time): one record for all links of a bench.
+#![tactic(auto)]
+
 ghost use Rattle.std.specs.Prelude.{◌≡◌};
 ghost use Rattle.time.specs.Time.{fresh_time, bad_time, is_next, time_after};
 
-#[derive(Drop)]
+#[derive(Clone, Copy, Drop)]
 pub struct Time {
     pub count: u8,
     // Whether the last Time-Code gave a tick out.

@@ -1,4 +1,6 @@
 // The words that every layer shares: refusals, N-Chars, tokens. Each stands here once.
+#![tactic(auto)]
+
 ghost use Rattle.std.specs.Prelude.{◌≡◌};
 ghost use Rattle.vocabulary.specs.Choice.{pick};
 ghost use Rattle.vocabulary.specs.NChars.{read_as, is_end, above_eep};
@@ -31,7 +33,7 @@ pub const EOP: u16 = 256;
 pub const EEP: u16 = 257;
 
 // One of the four things that go over a link.
-#[derive(Drop)]
+#[derive(Clone, Copy, Drop)]
 pub enum Token {
     Null,
     Fct,

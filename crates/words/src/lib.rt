@@ -1,4 +1,6 @@
 // Truths, numbers and tokens as words of 32 bits.
+#![tactic(auto)]
+
 ghost use Rattle.std.specs.Prelude.{◌≡◌};
 ghost use Rattle.words.specs.Words.{truth, truth_word, byte, narrow};
 ghost use Rattle.words.specs.Arguments.{fitted, no_token, bare, time_code, token_of};
@@ -65,6 +67,7 @@ fn time_code(value: u32) -> Token
 }
 
 // The token with this number and value: `token_of(3, 65)` is the data character 65.
+#[tactic(auto, unfolding(crate::specs::Arguments::token_of))]
 pub fn token_of(kind: u32, value: u32) -> Token
     ensures { result ≡ token_of kind value }
 {

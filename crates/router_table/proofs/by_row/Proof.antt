@@ -13,4 +13,4 @@ by_row_spec =
     (λ c κs. search rules)
     (λ c κs. search rules)
     (λ c κs. search rules)
-    (λ c. rw (c.before.before.requested.ensures, c.before.is-high.ensures, c.deletes-header.ensures)))
+    (λ c. rw (c.before.before.requested-ports.ensures, c.before.is_high-high.ensures, c.deletes_header-delete.ensures)))

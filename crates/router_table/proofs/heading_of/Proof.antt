@@ -14,7 +14,7 @@ heading_of_spec =
     tie.close
     (tie.spec
     (λ c κs. search rules)
-    (λ c. rw (← c.before.is_end.ensures, c.if1.true))
-    (λ c. omega (arith, leb-false 256 c.before.before.args.n (sym c.before.is_end.ensures ∙ c.if1.false)))
+    (λ c. rw (← c.before.is_end.ensures, c.if-is_end.true))
+    (λ c. omega (arith, leb-false 256 c.before.before.args.n (sym c.before.is_end.ensures ∙ c.if-is_end.false)))
     (λ c κs. search rules)
-    (λ c. c.address-heading.ensures ∙ sym (rw (← c.before.before.is_end.ensures, c.before.if1.false))))
+    (λ c. c.address_heading.ensures ∙ sym (rw (← c.before.before.is_end.ensures, c.before.if-is_end.false))))

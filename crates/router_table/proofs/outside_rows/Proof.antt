@@ -8,5 +8,5 @@ pub outside_rows_spec : {M : Type 1} → statement M
 outside_rows_spec =
     tie.close
     (tie.spec
-    (λ c. rw (lt-ltb _ _ c.if1.true))
-    (λ c. rw (le-ltb _ _ c.if1.false)))
+    (λ c. rw (lt-ltb _ _ c.if-row-lt32.true))
+    (λ c. rw (le-ltb _ _ c.if-row-lt32.false)))

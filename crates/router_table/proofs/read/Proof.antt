@@ -11,5 +11,5 @@ read_spec =
     (tie.spec
     (λ c. search rules)
     (λ c. search rules)
-    (λ c. rw (lt-ltb _ _ c.before.if1.true))
-    (λ c. rw (le-ltb _ _ c.if1.false)))
+    (λ c. rw (lt-ltb _ _ c.before.if-row-lt-ROWS.true))
+    (λ c. rw (le-ltb _ _ c.if-row-lt-ROWS.false)))

@@ -12,8 +12,8 @@ row_heading_spec =
     tie.close
     (tie.spec
     (λ c κs. search rules)
-    (λ c. rw (← c.before.is-invalid.ensures, c.if1.true))
+    (λ c. rw (← c.before.is_invalid.ensures, c.if-is_invalid.true))
     (λ c κs. search rules)
-    (λ c. rw (← c.before.before.before.is-invalid.ensures, c.before.before.if1.false, ← c.before.requested.ensures, eq-eqb _ _ c.if2.true))
+    (λ c. rw (← c.before.before.before.is_invalid.ensures, c.before.before.if-is_invalid.false, ← c.before.requested-ports.ensures, eq-eqb _ _ c.if-ports-eq0.true))
     (λ c κs. search rules)
-    (λ c. rw (c.by_Row.ensures, ← c.before.before.before.before.is-invalid.ensures, c.before.before.before.if1.false, ← c.before.before.requested.ensures, ne_eqb _ _ c.before.if2.false)))
+    (λ c. rw (c.by_row-d.ensures, ← c.before.before.before.before.is_invalid.ensures, c.before.before.before.if-is_invalid.false, ← c.before.before.requested-ports.ensures, ne_eqb _ _ c.before.if-ports-eq0.false)))

@@ -14,5 +14,5 @@ write_spec =
     (λ c κs. search rules)
     (λ c. search rules)
     (λ c. search rules)
-    (λ c. rw (c.written.ensures, lt-ltb _ _ c.before.if1.true))
-    (λ c. rw (le-ltb _ _ c.if1.false)))
+    (λ c. rw (c.written-v.ensures, lt-ltb _ _ c.before.if-row-lt-ROWS.true))
+    (λ c. rw (le-ltb _ _ c.if-row-lt-ROWS.false)))

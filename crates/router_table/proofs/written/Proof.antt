@@ -13,5 +13,5 @@ written_spec =
     (λ c. search rules)
     (λ c. search rules)
     (λ c. search rules)
-    (λ c. rw (← c.before.requested.ensures, eq-eqb _ _ c.if1.true))
-    (λ c. rw (← c.before.requested.ensures, ne_eqb _ _ c.if1.false)))
+    (λ c. rw (← c.before.requested-ports.ensures, eq-eqb _ _ c.if-ports-eq0.true))
+    (λ c. rw (← c.before.requested-ports.ensures, ne_eqb _ _ c.if-ports-eq0.false)))

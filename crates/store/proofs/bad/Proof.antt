@@ -8,5 +8,5 @@ pub bad_spec : {M : Type 1} → statement M
 bad_spec =
     tie.close
     (tie.spec
-    (λ c. rw (le-leb _ _ c.if1.true))
-    (λ c. rw (lt-leb _ _ c.if1.false)))
+    (λ c. rw (le-leb _ _ c.if-size-front.true))
+    (λ c. rw (lt-leb _ _ c.if-size-front.false)))

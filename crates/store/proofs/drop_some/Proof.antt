@@ -31,11 +31,11 @@ drop_some_spec =
     tie.close
     (tie.spec
     (λ c κs. search rules)
-    (λ c. rw (← c.before.refuses-drop.ensures, c.if1.true))
+    (λ c. rw (← c.before.refuses_drop.ensures, c.if-refuses_drop.true))
     (λ c. let a = c.before.before.before.args in
-    omega (arith, within (length a.places.now) a.s a.count c.before.refuses-drop.ensures c.if1.false))
+    omega (arith, within (length a.places.now) a.s a.count c.before.refuses_drop.ensures c.if-refuses_drop.false))
     (λ c κs. search rules)
     (λ c. let a = c.before.before.before.before.args in
-    let e = c.before.before.refuses-drop.ensures in
-    omega (arith, within (length a.places.now) a.s a.count e c.before.if1.false))
-    (λ c. rw (← c.before.before.refuses-drop.ensures, c.before.if1.false, ← c.round.ensures)))
+    let e = c.before.before.refuses_drop.ensures in
+    omega (arith, within (length a.places.now) a.s a.count e c.before.if-refuses_drop.false))
+    (λ c. rw (← c.before.before.refuses_drop.ensures, c.before.if-refuses_drop.false, ← c.round.ensures)))

@@ -12,6 +12,6 @@ find_end_spec =
     tie.close
     (tie.spec
     (λ c κs. search rules)
-    (λ c. rw (← c.before.bad.ensures, c.if1.true))
-    (λ c κs. sym c.before.bad.ensures ∙ c.if1.false)
-    (λ c. c.walk.ensures ∙ sym (rw (← c.before.before.bad.ensures, c.before.if1.false))))
+    (λ c. rw (← c.before.bad.ensures, c.if-bad.true))
+    (λ c κs. sym c.before.bad.ensures ∙ c.if-bad.false)
+    (λ c. c.walk.ensures ∙ sym (rw (← c.before.before.bad.ensures, c.before.if-bad.false))))

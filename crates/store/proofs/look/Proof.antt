@@ -13,4 +13,4 @@ look_spec =
     (λ c. search rules)
     (λ c κs. search rules)
     (λ c. search rules)
-    (λ c. rw (get_or-eq_default c.before.before.args.places.now 0 c.if1.false)))
+    (λ c. rw (get_or-eq_default c.before.before.args.places.now 0 c.if-front-places.false)))

@@ -25,14 +25,14 @@ within size s e h =
     (f, l, around_below size (s.front + s.len) (omega arith))
 
 -- the place that is written, and the length, are below the size
-placed : (c : tie.After-round) →
-    (c.round.result < length c.before.before.before.before.args.places.now)
+placed : (c : tie.After-round-at) →
+    (c.round-at.result < length c.before.before.before.before.args.places.now)
     × (c.before.before.before.before.args.s.len < length c.before.before.before.before.args.places.now)
 placed c =
     let a = c.before.before.before.before.args in
-    let e = c.before.before.refuses-put.ensures in
-    let accepted = within (length a.places.now) a.s e c.before.if1.false in
-    omega (arith, c.round.ensures)
+    let e = c.before.before.refuses_put.ensures in
+    let accepted = within (length a.places.now) a.s e c.before.if-refuses_put.false in
+    omega (arith, c.round-at.ensures)
 
 pub put_spec : {M : Type 1} → statement M
 unfolding put_store put_places
@@ -40,15 +40,15 @@ put_spec =
     tie.close
     (tie.spec
     (λ c κs. search rules)
-    (λ c. (rw (← c.before.refuses-put.ensures, c.if1.true), rw (← c.before.refuses-put.ensures, c.if1.true)))
+    (λ c. (rw (← c.before.refuses_put.ensures, c.if-refuses_put.true), rw (← c.before.refuses_put.ensures, c.if-refuses_put.true)))
     (λ c. let a = c.before.before.before.args in
-    omega (arith, within (length a.places.now) a.s c.before.refuses-put.ensures c.if1.false))
+    omega (arith, within (length a.places.now) a.s c.before.refuses_put.ensures c.if-refuses_put.false))
     (λ c κs. search rules)
     (λ c. omega (arith, placed c))
     (λ c. omega (arith, placed c))
     (λ c. omega (arith, placed c))
     (λ c. search rules)
     (λ c. (
-      rw (← c.before.before.refuses-put.ensures, c.before.if1.false),
-      rw (← c.before.before.refuses-put.ensures, c.before.if1.false, ← c.round.ensures),
+      rw (← c.before.before.refuses_put.ensures, c.before.if-refuses_put.false),
+      rw (← c.before.before.refuses_put.ensures, c.before.if-refuses_put.false, ← c.round-at.ensures),
     )))

@@ -9,5 +9,5 @@ refuses_drop_spec =
     tie.close
     (tie.spec
     (λ c κs. search rules)
-    (λ c. rw (← c.before.bad.ensures, c.if1.true))
-    (λ c. rw (← c.before.bad.ensures, c.if1.false)))
+    (λ c. rw (← c.before.bad.ensures, c.if-bad.true))
+    (λ c. rw (← c.before.bad.ensures, c.if-bad.false)))

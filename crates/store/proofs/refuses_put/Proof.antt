@@ -11,5 +11,5 @@ refuses_put_spec =
     (tie.spec
     (λ c κs. search rules)
     (λ c κs. search rules)
-    (λ c. rw (← c.before.bad.ensures, c.if1.true))
-    (λ c. c.is_full.ensures ∙ sym (rw (← c.before.before.bad.ensures, c.before.if1.false))))
+    (λ c. rw (← c.before.bad.ensures, c.if-bad.true))
+    (λ c. c.is_full.ensures ∙ sym (rw (← c.before.before.bad.ensures, c.before.if-bad.false))))

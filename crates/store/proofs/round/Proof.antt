@@ -8,5 +8,5 @@ pub round_spec : {M : Type 1} → statement M
 round_spec =
     tie.close
     (tie.spec
-    (λ c. rw (lt-ltb _ _ c.if1.true))
-    (λ c. rw (le-ltb _ _ c.if1.false)))
+    (λ c. rw (lt-ltb _ _ c.if-at-size.true))
+    (λ c. rw (le-ltb _ _ c.if-at-size.false)))

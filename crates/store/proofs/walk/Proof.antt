@@ -45,40 +45,40 @@ module _ (places : List ℕ) (at len count : ℕ) where
     unfolding through_end holds_end
     passes e = rw (standing_next places at len count more, end_as_read (get_or places at 0), e, add_assoc)
 
-abbrev invariant-loop : tie.invariant-loop
-invariant-loop places size len at₀ count₀ at count =
+abbrev invariant-loop-count : tie.invariant-loop-count
+invariant-loop-count places size len at₀ count₀ at count =
     (at < length places)
     × (count ≤ len)
     × (found_in (standing places at₀ len) ≡ after count (standing places at (len - count)))
 
-abbrev decreases-loop : tie.decreases-loop
-decreases-loop places size len at₀ count₀ at count = len - count
+abbrev decreases-loop-count : tie.decreases-loop-count
+decreases-loop-count places size len at₀ count₀ at count = len - count
 
-returns_ended : tie.Need-returns invariant-loop decreases-loop
+returns_ended : tie.Need-returns-then-is_end invariant-loop-count decreases-loop-count
 returns_ended c =
     let a = c.before.before.before.before.before.before.args in
-    let l = c.before.before.before.before.loop in
-    let more = c.before.before.before.loop-test.true in
-    let end : is_end (get_or a.places.now l.at 0) ≡ true = sym c.before.is_end.ensures ∙ c.if1.true in
+    let l = c.before.before.before.before.loop-count in
+    let more = c.before.before.before.loop-count-test.true in
+    let end : is_end (get_or a.places.now l.at 0) ≡ true = sym c.before.is_end.ensures ∙ c.if-is_end.true in
     sym (l.invariant.2 ∙ stops a.places.now l.at a.s.len l.count more end)
 
-goes_on : tie.Need-loop-preserved invariant-loop decreases-loop
+goes_on : tie.Need-loop-count-preserved invariant-loop-count decreases-loop-count
 goes_on c =
     let a = c.before.before.before.before.before.before.before.args in
-    let l = c.before.before.before.before.before.loop in
-    let more = c.before.before.before.before.loop-test.true in
+    let l = c.before.before.before.before.before.loop-count in
+    let more = c.before.before.before.before.loop-count-test.true in
     let byte : is_end (get_or a.places.now l.at 0) ≡ false =
-    sym c.before.before.is_end.ensures ∙ c.before.if1.false in
+    sym c.before.before.is_end.ensures ∙ c.before.if-is_end.false in
     let inside = around_below (length a.places.now) (l.at + 1) (omega arith) in
     let passed = passes a.places.now l.at a.s.len l.count more byte in
-    (omega (arith, c.round.ensures), omega arith, rw c.round.ensures (l.invariant.2 ∙ passed))
+    (omega (arith, c.round-at.ensures), omega arith, rw c.round-at.ensures (l.invariant.2 ∙ passed))
 
 pub walk_spec : {M : Type 1} → statement M
 walk_spec =
     tie.close
     (tie.spec
-    invariant-loop
-    decreases-loop
+    invariant-loop-count
+    decreases-loop-count
     (λ c. let a = c.before.args in
     (front_below (length a.places.now) a.s c.before.requires, omega arith, rw (sub-zero a.s.len) (starts _)))
     (λ c. omega arith)
@@ -92,5 +92,5 @@ walk_spec =
     (λ c. omega arith)
     goes_on
     (λ c. let a = c.before.before.before.args in
-    let l = c.before.loop in
-    sym (l.invariant.2 ∙ runs_dry a.places.now l.at a.s.len l.count c.loop-test.false)))
+    let l = c.before.loop-count in
+    sym (l.invariant.2 ∙ runs_dry a.places.now l.at a.s.len l.count c.loop-count-test.false)))

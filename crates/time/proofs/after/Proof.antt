@@ -11,5 +11,5 @@ after_spec =
     tie.close
     (tie.spec
     (λ c κs. search rules)
-    (λ c. rw (← c.before.is-next.ensures, c.if1.true))
-    (λ c. rw (← c.before.is-next.ensures, c.if1.false)))
+    (λ c. rw (← c.before.is_next.ensures, c.if-is_next.true))
+    (λ c. rw (← c.before.is_next.ensures, c.if-is_next.false)))

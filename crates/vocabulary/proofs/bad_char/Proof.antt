@@ -16,5 +16,5 @@ bad_char_spec =
     (λ c. search rules)
     (λ c. search rules)
     (λ c. search rules)
-    (λ c. c.above_eep.ensures ∙ sym (rw c.before.before.t.given.1))
+    (λ c. c.above_eep.ensures ∙ sym (rw c.in-NChar.is))
     (λ c. search rules))

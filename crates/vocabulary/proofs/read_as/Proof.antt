@@ -10,5 +10,5 @@ pub read_as_spec : {M : Type 1} → statement M
 read_as_spec =
     tie.close
     (tie.spec
-    (λ c. rw (lt-ltb _ _ c.if1.true))
-    (λ c. rw (le-ltb _ _ c.if1.false)))
+    (λ c. rw (lt-ltb _ _ c.if-stored-gt257.true))
+    (λ c. rw (le-ltb _ _ c.if-stored-gt257.false)))

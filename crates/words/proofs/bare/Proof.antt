@@ -11,5 +11,5 @@ bare_spec =
     tie.close
     (tie.spec
     (λ c κs. search rules)
-    (λ c. rw (eq-eqb _ _ c.if1.true))
-    (λ c. c.no-token.ensures ∙ sym (rw (ne_eqb _ _ c.before.if1.false))))
+    (λ c. rw (eq-eqb _ _ c.if-value-eq0.true))
+    (λ c. c.no_token.ensures ∙ sym (rw (ne_eqb _ _ c.before.if-value-eq0.false))))

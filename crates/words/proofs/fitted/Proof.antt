@@ -11,5 +11,5 @@ fitted_spec =
     tie.close
     (tie.spec
     (λ c. search rules)
-    (λ c. rw (lt-ltb _ _ c.if1.true))
-    (λ c. rw (le-ltb _ _ c.if1.false)))
+    (λ c. rw (lt-ltb _ _ c.if-n-lt65536.true))
+    (λ c. rw (le-ltb _ _ c.if-n-lt65536.false)))

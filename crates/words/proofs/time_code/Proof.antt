@@ -12,5 +12,5 @@ time_code_spec =
     (tie.spec
     (λ c. search rules)
     (λ c κs. search rules)
-    (λ c. rw (lt-ltb _ _ c.if1.true))
-    (λ c. c.no-token.ensures ∙ sym (rw (le-ltb _ _ c.before.if1.false))))
+    (λ c. rw (lt-ltb _ _ c.if-value-lt256.true))
+    (λ c. c.no_token.ensures ∙ sym (rw (le-ltb _ _ c.before.if-value-lt256.false))))
