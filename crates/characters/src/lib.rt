@@ -1,5 +1,6 @@
 // Bits to characters and back (01, Characters on the wire), in place on the words that the caller keeps.
 #![tactic(auto)]
+
 pub mod bits;
 pub mod decoder;
 mod decoder_tests;

@@ -1,6 +1,7 @@
 // A link end (01, The link end): its state is an array of words that the caller owns, and the places of its two stores are
 // lent. Every call works on the words in place.
 #![tactic(auto)]
+
 use time::Time;
 use vocabulary::Token;
 

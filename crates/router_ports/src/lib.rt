@@ -1,6 +1,7 @@
 // The router's eleven ports (01, The router) in the words that keep them: what is kept of each, and their 22 stores
 // in one lent area.
 #![tactic(auto)]
+
 ghost use Rattle.std.specs.Prelude.{◌≡◌, not, eqb, ltb, length, ℕ, ◌<◌, ◌^◌};
 ghost use Rattle.vocabulary.specs.Choice.{pick};
 ghost use Rattle.words.specs.Words.{word_at};

@@ -19,4 +19,4 @@ append_spec =
     (λ c.
     let put = c.before.before.before.before in
     let read = put.before.before.store_at.ensures in
-    (c.set-store.ensures ∙ rw (put.put_of.ensures.0, read, store_picked), put.put_of.ensures.1 ∙ rw read)))
+    (c.set_store.ensures ∙ rw (put.put_of-next.ensures.0, read, store_picked), put.put_of-next.ensures.1 ∙ rw read)))

@@ -8,6 +8,6 @@ pub bad_area_spec : {M : Type 1} → statement M
 bad_area_spec =
     tie.close
     (tie.spec
-    (λ c. rw (eq-eqb _ _ c.before.if1.true, lt-ltb _ _ c.if2.true))
-    (λ c. rw (eq-eqb _ _ c.before.if1.true, le-ltb _ _ c.if2.false))
-    (λ c. rw (ne_eqb _ _ c.if1.false)))
+    (λ c. rw (eq-eqb _ _ c.before.if-area-eq0.true, lt-ltb _ _ c.if-size-lt9.true))
+    (λ c. rw (eq-eqb _ _ c.before.if-area-eq0.true, le-ltb _ _ c.if-size-lt9.false))
+    (λ c. rw (ne_eqb _ _ c.if-area-eq0.false)))

@@ -20,13 +20,13 @@ bad_output_spec =
     (λ c. search rules)
     (λ c. search rules)
     (λ c κs. search rules)
-    (λ c. rw (← c.before.wide.ensures, lt-ltb _ _ c.if1.true))
+    (λ c. rw (← c.before.wide.ensures, lt-ltb _ _ c.if-wide-gt-LAST_PORT.true))
     (λ c. search rules)
     (λ c. search rules)
     (λ c κs. search rules)
     (λ c κs. search rules)
-    (λ c. let last = c.before.before in rw (← last.before.wide.ensures, le-ltb _ _ last.if1.false, c.match.keys1))
+    (λ c. let last = c.before.before in rw (← last.before.wide.ensures, le-ltb _ _ last.if-wide-gt-LAST_PORT.false, c.in-0.is))
     (λ c. let last = c.before.before.before.before in
-    rw (c.routed-to.ensures, c.before.wide2.ensures, ← last.before.wide.ensures, le-ltb _ _ last.if1.false, c.before.before.match.keys2))
+    rw (c.routed_to.ensures, c.before.wide-in-1.ensures, ← last.before.wide.ensures, le-ltb _ _ last.if-wide-gt-LAST_PORT.false, c.in-1.is))
     (λ c. let last = c.before.before in
-    rw (← last.before.wide.ensures, le-ltb _ _ last.if1.false, ne_eqb _ _ c.match.rest.0.1, ne_eqb _ _ c.match.rest.1)))
+    rw (← last.before.wide.ensures, le-ltb _ _ last.if-wide-gt-LAST_PORT.false, ne_eqb _ _ c.in_default.in_default-own.rest.0.1, ne_eqb _ _ c.in_default.in_default-own.rest.1)))

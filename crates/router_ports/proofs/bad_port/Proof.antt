@@ -36,6 +36,6 @@ bad_port_spec =
     let tested = c.before.before in
     let idle = tested.before.before.before in
     let a = idle.before.before.before.args in
-    rw c.wide.ensures (sym (zeros_in a.words.now a.p tested.if1.true)))
-    (λ c. rw (← c.before.bad-input.ensures, c.if2.true))
-    (λ c. c.bad-output.ensures ∙ sym (rw (← c.before.before.bad-input.ensures, c.before.if2.false))))
+    rw c.wide.ensures (sym (zeros_in a.words.now a.p tested.if-idle-words.true)))
+    (λ c. rw (← c.before.bad_input.ensures, c.if-bad_input.true))
+    (λ c. c.bad_output.ensures ∙ sym (rw (← c.before.before.bad_input.ensures, c.before.if-bad_input.false))))

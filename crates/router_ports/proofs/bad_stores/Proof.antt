@@ -29,19 +29,19 @@ next words size k h =
     any_next (bad_at words size) k 22 h
     ∙ ap (λ (st : Store). bad_store size st || any (bad_at words size) (k + 1) (22 - (k + 1))) (store_in_lem words k h)
 
-abbrev invariant-loop : tie.invariant-loop
-invariant-loop words size k₀ k = (k ≤ 22) × (any (bad_at words size) 0 22 ≡ any (bad_at words size) k (22 - k))
+abbrev invariant-loop-k : tie.invariant-loop-k
+invariant-loop-k words size k₀ k = (k ≤ 22) × (any (bad_at words size) 0 22 ≡ any (bad_at words size) k (22 - k))
 
-abbrev decreases-loop : tie.decreases-loop
-decreases-loop words size k₀ k = 22 - k
+abbrev decreases-loop-k : tie.decreases-loop-k
+decreases-loop-k words size k₀ k = 22 - k
 
 pub bad_stores_spec : {M : Type 1} → statement M
 unfolding store_of
 bad_stores_spec =
     tie.close
     (tie.spec
-    invariant-loop
-    decreases-loop
+    invariant-loop-k
+    decreases-loop-k
     (λ c. (omega arith, refl))
     (λ c. search rules)
     (λ c. search rules)
@@ -49,31 +49,31 @@ bad_stores_spec =
     (λ c. search rules)
     (λ c.
     let test = c.before.before in
-    let l = test.before.loop in
+    let l = test.before.loop-k in
     let a = test.before.before.args in
-    sym (l.invariant.1 ∙ next a.words.now a.size l.k test.loop-test.true ∙ rw (le-leb _ _ c.if1.true)))
+    sym (l.invariant.1 ∙ next a.words.now a.size l.k test.loop-k-test.true ∙ rw (le-leb _ _ c.if-size-words.true)))
     (λ c. search rules)
     (λ c. search rules)
     (λ c. search rules)
     (λ c.
     let front = c.before.before in
     let test = front.before.before in
-    let l = test.before.loop in
+    let l = test.before.loop-k in
     let a = test.before.before.args in
-    sym (l.invariant.1 ∙ next a.words.now a.size l.k test.loop-test.true
-    ∙ rw (lt-leb _ _ front.if1.false, lt-ltb _ _ c.if2.true)))
+    sym (l.invariant.1 ∙ next a.words.now a.size l.k test.loop-k-test.true
+    ∙ rw (lt-leb _ _ front.if-size-words.false, lt-ltb _ _ c.if-size-words-2.true)))
     (λ c. omega arith)
     (λ c. omega arith)
     (λ c.
     let front = c.before.before in
     let test = front.before.before in
-    let l = test.before.loop in
+    let l = test.before.loop-k in
     let a = test.before.before.args in (
       omega arith,
-      l.invariant.1 ∙ next a.words.now a.size l.k test.loop-test.true
-          ∙ rw (lt-leb _ _ front.if1.false, le-ltb _ _ c.if2.false),
+      l.invariant.1 ∙ next a.words.now a.size l.k test.loop-k-test.true
+          ∙ rw (lt-leb _ _ front.if-size-words.false, le-ltb _ _ c.if-size-words-2.false),
     ))
     (λ c.
-    let l = c.before.loop in
+    let l = c.before.loop-k in
     let a = c.before.before.args in
-    sym (l.invariant.1 ∙ any_done (bad_at a.words.now a.size) l.k 22 c.loop-test.false)))
+    sym (l.invariant.1 ∙ any_done (bad_at a.words.now a.size) l.k 22 c.loop-k-test.false)))

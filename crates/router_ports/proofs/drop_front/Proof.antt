@@ -15,4 +15,4 @@ drop_front_spec =
     (λ c κs. search rules)
     (λ c κs. search rules)
     (λ c κs. search rules)
-    (λ c. c.set-store.ensures ∙ rw (c.before.before.drop_of.ensures, c.before.before.before.store_at.ensures, store_picked)))
+    (λ c. c.set_store.ensures ∙ rw (c.before.before.drop_of-next.ensures, c.before.before.before.store_at.ensures, store_picked)))

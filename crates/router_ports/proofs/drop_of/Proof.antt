@@ -14,15 +14,15 @@ pub drop_of_spec : {M : Type 1} → statement M
 drop_of_spec =
     tie.close
     (tie.spec
-    (λ c. let a = c.before.before.args in omega (arith, part_ends a.k (length a.area.now) c.if1.true))
-    (λ c. let a = c.before.before.args in omega (arith, part_ends a.k (length a.area.now) c.if1.true))
-    (λ c. let a = c.before.before.args in omega (arith, part_ends a.k (length a.area.now) c.if1.true))
+    (λ c. let a = c.before.before.args in omega (arith, part_ends a.k (length a.area.now) c.if-k-lt-STORES.true))
+    (λ c. let a = c.before.before.args in omega (arith, part_ends a.k (length a.area.now) c.if-k-lt-STORES.true))
+    (λ c. let a = c.before.before.args in omega (arith, part_ends a.k (length a.area.now) c.if-k-lt-STORES.true))
     (λ c. search rules)
     (λ c. search rules)
-    (λ c. let a = c.before.before.args in omega (arith, part_ends a.k (length a.area.now) c.if1.true))
+    (λ c. let a = c.before.before.args in omega (arith, part_ends a.k (length a.area.now) c.if-k-lt-STORES.true))
     (λ c κs. search rules)
     (λ c. let a = c.before.before.before.before.args in
-    let inside = c.before.before.if1.true in
+    let inside = c.before.before.if-k-lt-STORES.true in
     c.drop_first.ensures
     ∙ rw (part_size a.k (length a.area.now / 22), places_length a.area.now a.k inside, lt-ltb _ _ inside))
-    (λ c. rw (le-ltb _ _ c.if1.false)))
+    (λ c. rw (le-ltb _ _ c.if-k-lt-STORES.false)))

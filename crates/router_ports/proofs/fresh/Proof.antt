@@ -24,19 +24,19 @@ all_written = refl
 next : (o : ℕ) → suc o ≡ o + 1
 next o = omega arith
 
-abbrev invariant-loop : tie.invariant-loop
-invariant-loop words₀ o₀ words o = (o ≤ 11) × (words ≡ written o)
+abbrev invariant-loop-o : tie.invariant-loop-o
+invariant-loop-o words₀ o₀ words o = (o ≤ 11) × (words ≡ written o)
 
-abbrev decreases-loop : tie.decreases-loop
-decreases-loop words₀ o₀ words o = 11 - o
+abbrev decreases-loop-o : tie.decreases-loop-o
+decreases-loop-o words₀ o₀ words o = 11 - o
 
 pub fresh_spec : {M : Type 1} → statement M
 unfolding written
 fresh_spec =
     tie.close
     (tie.spec
-    invariant-loop
-    decreases-loop
+    invariant-loop-o
+    decreases-loop-o
     (λ c. (omega arith, refl))
     (λ c. search rules)
     (λ c. search rules)
@@ -45,7 +45,7 @@ fresh_spec =
     (λ c. search rules)
     (λ c. search rules)
     (λ c. search rules)
-    (λ c. let l = c.before.loop in
+    (λ c. let l = c.before.loop-o in
     (omega arith, ap (λ (words : List ℕ). set words (33 + 3 * l.o + 2) 10) l.invariant.1 ∙ ap written (next l.o)))
-    (λ c. let l = c.before.loop in
-    l.invariant.1 ∙ ap written (let e : l.o ≡ 11 = omega (arith, c.loop-test.false) in e) ∙ all_written))
+    (λ c. let l = c.before.loop-o in
+    l.invariant.1 ∙ ap written (let e : l.o ≡ 11 = omega (arith, c.loop-o-test.false) in e) ∙ all_written))

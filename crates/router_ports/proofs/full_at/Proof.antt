@@ -12,5 +12,5 @@ full_at_spec =
     (tie.spec
     (λ c κs. search rules)
     (λ c κs. search rules)
-    (λ c. c.is_full.ensures ∙ rw (c.before.store_at.ensures, lt-ltb _ _ c.before.before.if1.true))
-    (λ c. rw (le-ltb _ _ c.if1.false)))
+    (λ c. c.is_full.ensures ∙ rw (c.before.store_at.ensures, lt-ltb _ _ c.before.before.if-k-lt-STORES.true))
+    (λ c. rw (le-ltb _ _ c.if-k-lt-STORES.false)))

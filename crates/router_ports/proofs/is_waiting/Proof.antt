@@ -14,5 +14,5 @@ is_waiting_spec =
     (λ c. search rules)
     (λ c. search rules)
     (λ c. search rules)
-    (λ c. sym (waiting_in _ _ c.before.if1.true))
-    (λ c. rw (le-ltb _ _ c.if1.false)))
+    (λ c. sym (waiting_in _ _ c.before.if-i-lt-PORTS.true))
+    (λ c. rw (le-ltb _ _ c.if-i-lt-PORTS.false)))

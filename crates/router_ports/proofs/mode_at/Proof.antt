@@ -12,5 +12,5 @@ mode_at_spec =
     tie.close
     (tie.spec
     (λ c κs. search rules)
-    (λ c. c.mode_in.ensures ∙ sym (mode_in _ _ c.before.if1.true))
-    (λ c. rw (le-ltb _ _ c.if1.false)))
+    (λ c. c.mode_in.ensures ∙ sym (mode_in _ _ c.before.if-i-lt-PORTS.true))
+    (λ c. rw (le-ltb _ _ c.if-i-lt-PORTS.false)))

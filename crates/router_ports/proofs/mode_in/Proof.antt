@@ -20,4 +20,4 @@ mode_in_spec =
     (λ c. search rules)
     (λ c. search rules)
     (λ c κs. search rules)
-    (λ c. c.Mode-of.ensures))
+    (λ c. c.mode_of.ensures))

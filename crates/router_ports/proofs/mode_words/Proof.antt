@@ -16,6 +16,6 @@ mode_words_spec =
     (λ c κs. search rules)
     (λ c. search rules)
     (λ c. search rules)
-    (λ c. rw (c.before.before.before.m.given.1, c.truth_word.ensures))
-    (λ c. rw (c.before.before.m2.given.1, c.narrow.ensures))
+    (λ c. rw (c.in-Waiting.is, c.truth_word-high.ensures))
+    (λ c. rw (c.in-Routed.is, c.narrow-output.ensures))
     (λ c. search rules))

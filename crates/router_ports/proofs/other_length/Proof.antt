@@ -10,4 +10,4 @@ other_length_spec =
     tie.close
     (tie.spec
     (λ c κs. search rules)
-    (λ c. (c.is-other.ensures, λ k. omega (arith, c.before.shared-slice-known.given k))))
+    (λ c. (c.is_other.ensures, λ k. omega (arith, c.before.shared_slice_known-1.given k))))

@@ -12,5 +12,5 @@ output_at_spec =
     tie.close
     (tie.spec
     (λ c κs. search rules)
-    (λ c. rw c.output_in.ensures (sym (output_in_lem _ _ c.before.if1.true)))
-    (λ c. rw (le-ltb _ _ c.if1.false)))
+    (λ c. rw c.output_in.ensures (sym (output_in_lem _ _ c.before.if-o-lt-PORTS.true)))
+    (λ c. rw (le-ltb _ _ c.if-o-lt-PORTS.false)))

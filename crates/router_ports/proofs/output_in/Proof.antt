@@ -22,4 +22,4 @@ output_in_spec =
     (λ c. search rules)
     (λ c. search rules)
     (λ c κs. search rules)
-    (λ c. rw (c.before.before.owner_of.ensures, c.wide.ensures)))
+    (λ c. rw (c.before.before.owner_of-owner.ensures, c.wide-last.ensures)))

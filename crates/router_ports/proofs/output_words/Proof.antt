@@ -12,5 +12,5 @@ output_words_spec =
     (λ c. search rules)
     (λ c. search rules)
     (λ c κs. search rules)
-    (λ c. rw (c.before.before.narrow.ensures, c.enum_told.given.1))
-    (λ c. rw (c.before.before.before.before.narrow.ensures, c.before.before.owner.given.1, c.narrow2.ensures)))
+    (λ c. rw (c.narrow-granted.ensures, c.in-Free.is))
+    (λ c. rw (c.narrow-granted.ensures, c.in-By.is, c.narrow-input.ensures)))

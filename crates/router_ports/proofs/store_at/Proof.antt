@@ -13,5 +13,5 @@ store_at_spec =
     (tie.spec
     (λ c κs. search rules)
     (λ c κs. search rules)
-    (λ c. c.store_in.ensures ∙ sym (store_in_lem _ _ c.before.if1.true))
-    (λ c. c.fresh.ensures ∙ sym (rw (le-ltb _ _ c.before.if1.false))))
+    (λ c. c.store_in.ensures ∙ sym (store_in_lem _ _ c.before.if-k-lt-STORES.true))
+    (λ c. c.fresh.ensures ∙ sym (rw (le-ltb _ _ c.before.if-k-lt-STORES.false))))

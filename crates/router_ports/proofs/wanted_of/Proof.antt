@@ -12,4 +12,4 @@ wanted_of_spec =
     (tie.spec
     (λ c. search rules)
     (λ c κs. search rules)
-    (λ c. rw c.truth.ensures))
+    (λ c. rw c.truth-high.ensures))

@@ -14,5 +14,5 @@ odd_n_char_spec =
     (tie.spec
     (λ c. search rules)
     (λ c κs. search rules)
-    (λ c. c.odd-ones.ensures ∙ sym (rw (lt-ltb _ _ c.before.if1.true)))
-    (λ c. rw (le-ltb _ _ c.if1.false) (sym (end_odd (eqb c.before.args.n 256)))))
+    (λ c. c.odd_ones.ensures ∙ sym (rw (lt-ltb _ _ c.before.if-n-lt256.true)))
+    (λ c. rw (le-ltb _ _ c.if-n-lt256.false) (sym (end_odd (eqb c.before.args.n 256)))))

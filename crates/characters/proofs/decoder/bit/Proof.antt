@@ -41,36 +41,36 @@ bit_spec =
     (λ c κs. search rules)
     (λ c. let phase = c.before.before.before.before.before in
     let words = phase.before.before.before.args.words.now in
-    let keys = phase.match.keys1 in
-    bit_left_lem words _ (fresh_means words keys) _ _ _ phase.before.before.truth.ensures
+    let keys = c.in-0.is in
+    bit_left_lem words _ (fresh_means words keys) _ _ _ phase.before.before.truth-b.ensures
     (c.before.before.before.unused.ensures ∙ fresh_good words keys) refl (c.hunt.ensures 0 0 0))
     (λ c. let places = c.before.before.before.before.before in
     let phase = places.before.before in
     let words = phase.before.before.before.args.words.now in
-    bit_left_lem words _ (hunting_means words phase.match.keys2) _ _ _ phase.before.before.truth.ensures
-    c.before.before.before.hunting.ensures refl (rw places.byte.ensures at
-    (c.hunt2.ensures 1 (byte (word_at words 1)) (byte (word_at words 6)))))
+    bit_left_lem words _ (hunting_means words c.in-1.is) _ _ _ phase.before.before.truth-b.ensures
+    c.before.before.before.hunting.ensures refl (rw places.byte-places.ensures at
+    (c.hunt-in-1.ensures 1 (byte (word_at words 1)) (byte (word_at words 6)))))
     (λ c. let phase = c.before.before.before.before.before in
     let words = phase.before.before.before.args.words.now in
-    bit_left_lem words _ (between_means words phase.match.keys3) _ _ _ phase.before.before.truth.ensures
-    c.before.before.before.between.ensures refl (c.keep-bit.ensures _ _ _ _ _ _ _ _ refl))
+    bit_left_lem words _ (between_means words c.in-2.is) _ _ _ phase.before.before.truth-b.ensures
+    c.before.before.before.between.ensures refl (c.keep_bit.ensures _ _ _ _ _ _ _ _ refl))
     (λ c. let phase = c.before.before.before.before.before in
     let words = phase.before.before.before.args.words.now in
-    bit_left_lem words _ (parity_means words phase.match.keys4) _ _ _ phase.before.before.truth.ensures
-    c.before.before.before.parity.ensures refl (c.flag-bit.ensures _ _ _ (waiting_fits _ _)))
+    bit_left_lem words _ (parity_means words c.in-3.is) _ _ _ phase.before.before.truth-b.ensures
+    c.before.before.before.parity.ensures refl (c.flag_bit.ensures _ _ _ (waiting_fits _ _)))
     (λ c. let phase = c.before.before.before.before.before in
     let words = phase.before.before.before.args.words.now in
-    bit_left_lem words _ (data_means words phase.match.keys5) _ _ _ phase.before.before.truth.ensures
-    c.before.before.before.«data».ensures refl (c.data-bit.ensures _ _ _))
+    bit_left_lem words _ (data_means words c.in-4.is) _ _ _ phase.before.before.truth-b.ensures
+    c.before.before.before.«data».ensures refl (c.data_bit.ensures _ _ _))
     (λ c. let phase = c.before.before.before.before.before in
     let words = phase.before.before.before.args.words.now in
-    bit_left_lem words _ (control_means words phase.match.keys6) _ _ _ phase.before.before.truth.ensures
-    c.before.before.before.control.ensures refl (c.keep-bit2.ensures _ _ _ _ _ _ _ _ refl))
+    bit_left_lem words _ (control_means words c.in-5.is) _ _ _ phase.before.before.truth-b.ensures
+    c.before.before.before.control.ensures refl (c.keep_bit-in-5.ensures _ _ _ _ _ _ _ _ refl))
     (λ c. let phase = c.before.before.before.before.before in
     let words = phase.before.before.before.args.words.now in
-    bit_left_lem words _ (second_means words phase.match.keys7) _ _ _ phase.before.before.truth.ensures
-    c.before.before.before.second.ensures refl (c.second-bit.ensures (truth (word_at words 4))
+    bit_left_lem words _ (second_means words c.in-6.is) _ _ _ phase.before.before.truth-b.ensures
+    c.before.before.before.second.ensures refl (c.second_bit.ensures (truth (word_at words 4))
     (truth (word_at words 5)) _))
-    (λ c. rw (c.stay.ensures.0, c.stay.ensures.1, c.before.before.unused2.ensures)
-    (bit_stopped _ c.before.before.before.before.match.keys8 _))
-    (λ c. rw (c.stay2.ensures.0, c.stay2.ensures.1) (bit_none _ c.before.before.match.rest _)))
+    (λ c. rw (c.stay.ensures.0, c.stay.ensures.1, c.before.before.unused-in-7.ensures)
+    (bit_stopped _ c.in-7.is _))
+    (λ c. rw (c.stay-in_default.ensures.0, c.stay-in_default.ensures.1) (bit_none _ c.in_default.in_default-own.rest _)))

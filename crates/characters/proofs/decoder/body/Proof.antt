@@ -9,5 +9,5 @@ body_spec =
     tie.close
     (tie.spec
     (λ c κs. search rules)
-    (λ c. rw (c.before.truth_word.ensures, c.if1.true))
-    (λ c. rw (c.before.truth_word.ensures, c.if1.false)))
+    (λ c. rw (c.before.truth_word-esc.ensures, c.if-flag.true))
+    (λ c. rw (c.before.truth_word-esc.ensures, c.if-flag.false)))

@@ -8,5 +8,5 @@ pub closed_spec : {M : Type 1} → statement M
 closed_spec =
     tie.close
     (tie.spec
-    (λ c. rw (eq-eqb _ _ c.if1.true))
-    (λ c. rw (ne_eqb _ _ c.if1.false)))
+    (λ c. rw (eq-eqb _ _ c.if-waits-eq-ESC.true))
+    (λ c. rw (ne_eqb _ _ c.if-waits-eq-ESC.false)))

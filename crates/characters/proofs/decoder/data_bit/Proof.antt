@@ -38,12 +38,12 @@ data_bit_spec =
     (λ c. λ e p s shape. let escape = c.before.before.before.before in
     let tested = escape.before.before in
     let next = tested.before in
-    let taken = next.before.before.if1.true in
-    let last = rw (shape taken) at tested.if2.true in
+    let taken = next.before.before.if-good.true in
+    let last = rw (shape taken) at tested.if-places-eq1.true in
     rw (
-      c.before.before.before.data_number.ensures,
+      c.before.before.before.data_number-number.ensures,
       escape.truth.ensures,
-      next.shift.ensures,
+      next.shift-next.ensures,
       shape taken,
       taken,
       truth_back e,
@@ -54,7 +54,7 @@ data_bit_spec =
     ))
     (λ c. λ e p s shape. let tested = c.before.before in
     let next = tested.before in
-    let taken = next.before.before.if1.true in
-    let more = rw (shape taken) at tested.if2.false in
-    rw (next.shift.ensures, shape taken, taken, ne_eqb _ _ more, c.stay2.ensures.0, c.stay2.ensures.1))
-    (λ c. λ e p s shape. rw (c.before.before.if1.false, c.stay3.ensures.0, c.stay3.ensures.1)))
+    let taken = next.before.before.if-good.true in
+    let more = rw (shape taken) at tested.if-places-eq1.false in
+    rw (next.shift-next.ensures, shape taken, taken, ne_eqb _ _ more, c.stay-else-places-eq1.ensures.0, c.stay-else-places-eq1.ensures.1))
+    (λ c. λ e p s shape. rw (c.before.before.if-good.false, c.stay-else-good.ensures.0, c.stay-else-good.ensures.1)))

@@ -30,7 +30,7 @@ escaped_control_spec =
     (λ c κs. search rules)
     (λ c. let args = c.before.before.before.before.args in
     rw c.before.stop.ensures (sym (ap accepted (fails args.a args.b
-    c.before.before.before.if1.true))))
+    c.before.before.before.if-a-b.true))))
     (λ c. let args = c.before.before.before.before.args in
     rw (c.stay.ensures.0, c.stay.ensures.1) (sym (ap accepted
-    (passes args.a args.b c.before.before.before.if1.false)))))
+    (passes args.a args.b c.before.before.before.if-a-b.false)))))

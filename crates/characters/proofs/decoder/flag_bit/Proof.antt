@@ -26,13 +26,13 @@ flag_bit_spec =
     (λ c κs. search rules)
     (λ c κs. search rules)
     (λ c. λ w p s fits shape. let tested = c.before.before.before in
-    let taken = tested.before.before.before.before.before.if1.true in
-    let good = rw (tested.before.truth.ensures, shape taken, value_odd w fits, truth_back p) at
-    (sym tested.good-parity.ensures ∙ c.before.before.if2.true) in
+    let taken = tested.before.before.before.before.before.if-good.true in
+    let good = rw (tested.before.truth-p.ensures, shape taken, value_odd w fits, truth_back p) at
+    (sym tested.good_parity.ensures ∙ c.before.before.if-good_parity.true) in
     rw (c.closed.ensures, c.before.body.ensures, shape taken, taken, good, waiting_closes w, number_escaped w))
     (λ c. λ w p s fits shape. let tested = c.before.before.before.before in
-    let taken = tested.before.before.before.before.before.if1.true in
-    let bad = rw (tested.before.truth.ensures, shape taken, value_odd w fits, truth_back p) at
-    (sym tested.good-parity.ensures ∙ c.before.before.before.if2.false) in
+    let taken = tested.before.before.before.before.before.if-good.true in
+    let bad = rw (tested.before.truth-p.ensures, shape taken, value_odd w fits, truth_back p) at
+    (sym tested.good_parity.ensures ∙ c.before.before.before.if-good_parity.false) in
     rw (c.before.stop.ensures, taken, bad))
-    (λ c. λ w p s fits shape. rw (c.before.before.if1.false, c.stay.ensures.0, c.stay.ensures.1)))
+    (λ c. λ w p s fits shape. rw (c.before.before.if-good.false, c.stay.ensures.0, c.stay.ensures.1)))

@@ -11,4 +11,4 @@ good_parity_spec =
     (λ c κs. search rules)
     (λ c κs. search rules)
     (λ c κs. search rules)
-    (λ c. rw (c.differ-in2.ensures, c.before.differ-in.ensures, c.before.before.odd-n-char.ensures)))
+    (λ c. rw (c.differ_in-2.ensures, c.before.differ_in.ensures, c.before.before.odd_n_char-odd.ensures)))

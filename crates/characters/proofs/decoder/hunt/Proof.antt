@@ -22,16 +22,16 @@ hunt_spec =
     (λ c κs. search rules)
     (λ c κs. search rules)
     (λ c. λ k s p shape. let next = c.before.before in
-    let taken = next.before.if1.true in
-    rw (shape taken, taken, ← next.shift.ensures, eq-eqb _ _ c.before.if2.true))
+    let taken = next.before.if-good.true in
+    rw (shape taken, taken, ← next.shift-next.ensures, eq-eqb _ _ c.before.if-next-eq-HUNTED_FOR.true))
     (λ c. λ k s p shape. let next = c.before.before.before in
-    let taken = next.before.if1.true in
+    let taken = next.before.if-good.true in
     rw (
       shape taken,
       taken,
-      ← next.shift.ensures,
-      ne_eqb _ _ c.before.before.if2.false,
+      ← next.shift-next.ensures,
+      ne_eqb _ _ c.before.before.if-next-eq-HUNTED_FOR.false,
       c.stay.ensures.0,
       c.stay.ensures.1,
     ))
-    (λ c. λ k s p shape. rw (c.before.before.if1.false, c.stay2.ensures.0, c.stay2.ensures.1)))
+    (λ c. λ k s p shape. rw (c.before.before.if-good.false, c.stay-else-good.ensures.0, c.stay-else-good.ensures.1)))

@@ -18,6 +18,6 @@ keep_bit_spec =
     (λ c κs. search rules)
     (λ c κs. search rules)
     (λ c. λ k s n v e f p d words shape. let bit = c.before.before in
-    let taken = bit.before.if1.true in
+    let taken = bit.before.if-good.true in
     rw (shape taken, taken, words, bit.truth_word.ensures, c.stay.ensures.0, c.stay.ensures.1))
-    (λ c. λ k s n v e f p d words shape. rw (c.before.before.if1.false, c.stay2.ensures.0, c.stay2.ensures.1)))
+    (λ c. λ k s n v e f p d words shape. rw (c.before.before.if-good.false, c.stay-else-good.ensures.0, c.stay-else-good.ensures.1)))

@@ -7,7 +7,7 @@ pub plain_control_spec : {M : Type 1} → statement M
 plain_control_spec =
     tie.close
     (tie.spec
-    (λ c. rw (c.before.if1.true, c.if2.true))
-    (λ c. rw (c.before.if1.true, c.if2.false))
-    (λ c. rw (c.before.if1.false, c.if3.true))
-    (λ c. rw (c.before.if1.false, c.if3.false)))
+    (λ c. rw (c.before.if-a.true, c.if-b.true))
+    (λ c. rw (c.before.if-a.true, c.if-b.false))
+    (λ c. rw (c.before.if-a.false, c.if-b-2.true))
+    (λ c. rw (c.before.if-a.false, c.if-b-2.false)))

@@ -24,16 +24,16 @@ second_bit_spec =
     (λ c κs. search rules)
     (λ c. λ e a s shape. let tested = c.before.before.before in
     let first = tested.before.before.before in
-    let taken = first.before.before.if1.true in
-    let escape = rw (shape taken, truth_back e) at (sym tested.before.truth2.ensures ∙ tested.if2.true) in
-    c.escaped-control.ensures ∙ sym (rw (taken, escape, first.truth.ensures, shape taken, truth_back a)))
+    let taken = first.before.before.if-good.true in
+    let escape = rw (shape taken, truth_back e) at (sym tested.before.truth.ensures ∙ tested.if-truth.true) in
+    c.escaped_control.ensures ∙ sym (rw (taken, escape, first.truth-a.ensures, shape taken, truth_back a)))
     (λ c. λ e a s shape. let tested = c.before.before.before in
     let first = tested.before.before.before in
-    let taken = first.before.before.if1.true in
-    let plain = rw (shape taken, truth_back e) at (sym tested.before.truth2.ensures ∙ tested.if2.false) in
+    let taken = first.before.before.if-good.true in
+    let plain = rw (shape taken, truth_back e) at (sym tested.before.truth.ensures ∙ tested.if-truth.false) in
     rw (
-      c.before.before.plain-control.ensures,
-      first.truth.ensures,
+      c.before.before.plain_control.ensures,
+      first.truth-a.ensures,
       shape taken,
       taken,
       plain,
@@ -41,4 +41,4 @@ second_bit_spec =
       c.stay.ensures.0,
       c.stay.ensures.1,
     ))
-    (λ c. λ e a s shape. rw (c.before.before.if1.false, c.stay2.ensures.0, c.stay2.ensures.1)))
+    (λ c. λ e a s shape. rw (c.before.before.if-good.false, c.stay-else-good.ensures.0, c.stay-else-good.ensures.1)))

@@ -10,5 +10,5 @@ shift_spec =
     tie.close
     (tie.spec
     (λ c. search rules)
-    (λ c. rw c.if1.true)
-    (λ c. rw c.if1.false (omega arith)))
+    (λ c. rw c.if-b.true)
+    (λ c. rw c.if-b.false (omega arith)))

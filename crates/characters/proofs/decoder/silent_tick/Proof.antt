@@ -32,11 +32,11 @@ silent_tick_spec =
     (λ c κs. search rules)
     (λ c κs. search rules)
     (λ c. λ p s shape. let tested = c.before.before in
-    let taken = tested.before.before.if1.true in
-    let few = rw (shape taken, (counts p s 0).0) at tested.if2.true in
+    let taken = tested.before.before.if-good.true in
+    let few = rw (shape taken, (counts p s 0).0) at tested.if-silent-lt-MOST_SILENT.true in
     rw (shape taken, taken, (counts p s 0).0, (counts p s _).1, lt-ltb _ _ few, c.stay.ensures.0, c.stay.ensures.1))
     (λ c. λ p s shape. let tested = c.before.before.before in
-    let taken = tested.before.before.if1.true in
-    let many = rw (shape taken, (counts p s 0).0) at tested.if2.false in
+    let taken = tested.before.before.if-good.true in
+    let many = rw (shape taken, (counts p s 0).0) at tested.if-silent-lt-MOST_SILENT.false in
     rw (c.before.stop.ensures, taken, le-ltb _ _ many))
-    (λ c. λ p s shape. rw (c.before.before.if1.false, c.stay2.ensures.0, c.stay2.ensures.1)))
+    (λ c. λ p s shape. rw (c.before.before.if-good.false, c.stay-else-good.ensures.0, c.stay-else-good.ensures.1)))

@@ -34,34 +34,34 @@ tick_spec =
     (λ c κs. search rules)
     (λ c. let phase = c.before.before.before.before in
     let words = phase.before.before.args.words.now in
-    let keys = phase.match.keys1 in
+    let keys = c.in-0.is in
     rw (c.stay.ensures.0, c.stay.ensures.1)
     (tick_left_lem words _ (fresh_means words keys) _ (c.before.before.unused.ensures ∙ fresh_good words keys) refl
     (fresh_stays words _)))
     (λ c. let phase = c.before.before.before.before.before in
     let words = phase.before.before.args.words.now in
-    tick_left_lem words _ (hunting_means words phase.match.keys2) _
-    c.before.before.before.hunting.ensures refl (c.silent-tick.ensures _ _))
+    tick_left_lem words _ (hunting_means words c.in-1.is) _
+    c.before.before.before.hunting.ensures refl (c.silent_tick.ensures _ _))
     (λ c. let phase = c.before.before.before.before.before in
     let words = phase.before.before.args.words.now in
-    tick_left_lem words _ (between_means words phase.match.keys3) _
-    c.before.before.before.between.ensures refl (c.silent-tick2.ensures _ _))
+    tick_left_lem words _ (between_means words c.in-2.is) _
+    c.before.before.before.between.ensures refl (c.silent_tick-in-2.ensures _ _))
     (λ c. let phase = c.before.before.before.before.before in
     let words = phase.before.before.args.words.now in
-    tick_left_lem words _ (parity_means words phase.match.keys4) _
-    c.before.before.before.parity.ensures refl (c.silent-tick3.ensures _ _))
+    tick_left_lem words _ (parity_means words c.in-3.is) _
+    c.before.before.before.parity.ensures refl (c.silent_tick-in-3.ensures _ _))
     (λ c. let phase = c.before.before.before.before.before in
     let words = phase.before.before.args.words.now in
-    tick_left_lem words _ (data_means words phase.match.keys5) _
-    c.before.before.before.«data».ensures refl (c.silent-tick4.ensures _ _))
+    tick_left_lem words _ (data_means words c.in-4.is) _
+    c.before.before.before.«data».ensures refl (c.silent_tick-in-4.ensures _ _))
     (λ c. let phase = c.before.before.before.before.before in
     let words = phase.before.before.args.words.now in
-    tick_left_lem words _ (control_means words phase.match.keys6) _
-    c.before.before.before.control.ensures refl (c.silent-tick5.ensures _ _))
+    tick_left_lem words _ (control_means words c.in-5.is) _
+    c.before.before.before.control.ensures refl (c.silent_tick-in-5.ensures _ _))
     (λ c. let phase = c.before.before.before.before.before in
     let words = phase.before.before.args.words.now in
-    tick_left_lem words _ (second_means words phase.match.keys7) _
-    c.before.before.before.second.ensures refl (c.silent-tick6.ensures _ _))
-    (λ c. rw (c.stay2.ensures.0, c.stay2.ensures.1, c.before.before.unused2.ensures)
-    (tick_stopped _ c.before.before.before.before.match.keys8))
-    (λ c. rw (c.stay3.ensures.0, c.stay3.ensures.1) (tick_none _ c.before.before.match.rest)))
+    tick_left_lem words _ (second_means words c.in-6.is) _
+    c.before.before.before.second.ensures refl (c.silent_tick-in-6.ensures _ _))
+    (λ c. rw (c.stay-in-7.ensures.0, c.stay-in-7.ensures.1, c.before.before.unused-in-7.ensures)
+    (tick_stopped _ c.in-7.is))
+    (λ c. rw (c.stay-in_default.ensures.0, c.stay-in_default.ensures.1) (tick_none _ c.in_default.in_default-own.rest)))

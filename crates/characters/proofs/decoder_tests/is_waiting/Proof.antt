@@ -8,6 +8,6 @@ pub is_waiting_spec : {M : Type 1} → statement M
 is_waiting_spec =
     tie.close
     (tie.spec
-    (λ c. rw c.match.keys1 (n_char_waits _))
-    (λ c. rw c.match.keys2 (time_code_waits _))
-    (λ c. other_waits _ _ c.match.rest.0.1 c.match.rest.1))
+    (λ c. rw c.in-3.is (n_char_waits _))
+    (λ c. rw c.in-4.is (time_code_waits _))
+    (λ c. other_waits _ _ c.in_default.in_default-own.rest.0.1 c.in_default.in_default-own.rest.1))

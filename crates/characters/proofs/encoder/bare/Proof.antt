@@ -15,5 +15,5 @@ bare_spec =
     (tie.spec
     (λ c κs. search rules)
     (λ c κs. search rules)
-    (λ c. λ e t is shape. c.sent.ensures ∙ sym (rw (eq-eqb _ _ c.before.before.before.if1.true, is)))
-    (λ c. λ e t is shape. rw (ne_eqb _ _ c.before.before.if1.false, shape, c.refused.ensures.0, c.refused.ensures.1)))
+    (λ c. λ e t is shape. c.sent.ensures ∙ sym (rw (eq-eqb _ _ c.before.before.before.if-value-eq0.true, is)))
+    (λ c. λ e t is shape. rw (ne_eqb _ _ c.before.before.if-value-eq0.false, shape, c.refused.ensures.0, c.refused.ensures.1)))

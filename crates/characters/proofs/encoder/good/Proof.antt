@@ -12,5 +12,5 @@ good_spec =
     tie.close
     (tie.spec
     (λ c. search rules)
-    (λ c. encoder_test _ c.before.if1.true)
-    (λ c. sym (same_lengths _ _ c.if1.false)))
+    (λ c. encoder_test _ c.before.if-words-eq-WORDS.true)
+    (λ c. sym (same_lengths _ _ c.if-words-eq-WORDS.false)))

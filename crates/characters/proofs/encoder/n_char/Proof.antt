@@ -25,17 +25,17 @@ n_char_spec =
     (λ c. search rules)
     (λ c κs. search rules)
     (λ c κs. search rules)
-    (λ c. λ e odd shape. c.sent.ensures ∙ sym (rw (c.before.before.before.match.keys1, odd)
+    (λ c. λ e odd shape. c.sent.ensures ∙ sym (rw (c.in-256.is, odd)
     (ap encoded (eop_sent e.odd))))
-    (λ c. λ e odd shape. c.sent2.ensures ∙ sym (rw (c.before.before.before.match.keys2, odd)
+    (λ c. λ e odd shape. c.sent-in-257.ensures ∙ sym (rw (c.in-257.is, odd)
     (ap encoded (eep_sent e.odd))))
-    (λ c. λ e odd shape. c.sent3.ensures ∙ sym (rw (odd, c.before.before.odd-ones.ensures)
+    (λ c. λ e odd shape. c.sent-in-0-to-255.ensures ∙ sym (rw (odd, c.before.before.odd_ones.ensures)
     (ap encoded (data_sent e.odd _ (search rules)))))
     (λ c. λ e odd shape. let tested = c.before.before in
-    let others = tested.before.match.rest in
+    let others = c.in_default.in_default-own.rest in
     rw (
       above_refused e tested.before.before.args.value (omega
-          (arith, tested.if1.false, others.0.1, others.1)),
+          (arith, tested.if-value-lt256.false, others.0.1, others.1)),
       shape,
       c.refused.ensures.0,
       c.refused.ensures.1,

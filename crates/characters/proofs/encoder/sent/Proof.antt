@@ -11,4 +11,4 @@ sent_spec =
     tie.close
     (tie.spec
     (λ c κs. search rules)
-    (λ c. rw c.before.before.truth_word.ensures))
+    (λ c. rw c.before.before.truth_word-word.ensures))

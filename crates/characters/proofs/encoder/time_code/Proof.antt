@@ -21,10 +21,10 @@ time_code_spec =
     (λ c. search rules)
     (λ c κs. search rules)
     (λ c κs. search rules)
-    (λ c. λ e odd shape. c.sent.ensures ∙ sym (rw (odd, c.before.before.odd-ones.ensures)
-    (ap encoded (time_code_sent e.odd _ c.before.before.before.before.if1.true))))
+    (λ c. λ e odd shape. c.sent.ensures ∙ sym (rw (odd, c.before.before.odd_ones.ensures)
+    (ap encoded (time_code_sent e.odd _ c.before.before.before.before.if-value-lt256.true))))
     (λ c. λ e odd shape. rw (
-      le-ltb _ _ c.before.before.if1.false,
+      le-ltb _ _ c.before.before.if-value-lt256.false,
       shape,
       c.refused.ensures.0,
       c.refused.ensures.1,

@@ -24,12 +24,12 @@ token_spec =
     (λ c κs. search rules)
     (λ c κs. search rules)
     (λ c. λ e odd shape. c.bare.ensures e Null (rw odd (null_sent e.odd)) shape ∙ sym
-    (rw c.before.before.before.match.keys1))
-    (λ c. λ e odd shape. c.bare2.ensures e Fct (rw odd (fct_sent e.odd)) shape ∙ sym
-    (rw c.before.before.before.match.keys2))
-    (λ c. λ e odd shape. c.n-char.ensures e odd shape ∙ sym (rw c.before.before.before.match.keys3))
-    (λ c. λ e odd shape. c.time_code.ensures e odd shape ∙ sym (rw c.before.before.before.match.keys4))
-    (λ c. λ e odd shape. let none = c.before.before.match.rest in
+    (rw c.in-1.is))
+    (λ c. λ e odd shape. c.bare-in-2.ensures e Fct (rw odd (fct_sent e.odd)) shape ∙ sym
+    (rw c.in-2.is))
+    (λ c. λ e odd shape. c.n_char.ensures e odd shape ∙ sym (rw c.in-3.is))
+    (λ c. λ e odd shape. c.time_code.ensures e odd shape ∙ sym (rw c.in-4.is))
+    (λ c. λ e odd shape. let none = c.in_default.in_default-own.rest in
     rw (
       ne_eqb _ _ none.0.0.0.1,
       ne_eqb _ _ none.0.0.1,

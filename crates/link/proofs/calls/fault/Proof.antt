@@ -25,7 +25,7 @@ fault_spec =
     (λ c.
     let n = c.before in
     let a = n.before.before.before.before.before.before.args in
-    fault_refused_as a.words.now a.rx.now a.tx.now a.kind 0 (rw (unlinked a.words.now n.no_link.ensures c.if1.true)))
+    fault_refused_as a.words.now a.rx.now a.tx.now a.kind 0 (rw (unlinked a.words.now n.no_link.ensures c.if-no_link.true)))
     (λ c κs. search rules)
     (λ c. search rules)
     (λ c.
@@ -33,9 +33,9 @@ fault_spec =
     let n = b.before.before.before in
     let a = n.before.before.before.before.before.before.args in
     let l = link_of a.words.now in
-    let link = linked a.words.now n.no_link.ensures b.before.before.if1.false in
+    let link = linked a.words.now n.no_link.ensures b.before.before.if-no_link.false in
     let own = own_words a.words.now link in
-    let record_said = sym (b.bad-record.ensures l own) ∙ c.if2.true in
+    let record_said = sym (b.bad_record.ensures l own) ∙ c.if-bad_record.true in
     fault_refused_as a.words.now a.rx.now a.tx.now a.kind 0 (rw (link, record_said)))
     (λ c κs. search rules)
     (λ c. search rules)
@@ -45,10 +45,10 @@ fault_spec =
     let n = b.before.before.before in
     let a = n.before.before.before.before.before.before.args in
     let l = link_of a.words.now in
-    let link = linked a.words.now n.no_link.ensures b.before.before.if1.false in
+    let link = linked a.words.now n.no_link.ensures b.before.before.if-no_link.false in
     let own = own_words a.words.now link in
-    let record_said = sym (b.bad-record.ensures l own) ∙ z.before.if2.false in
-    let sizes_said = sym z.bad-sizes.ensures ∙ c.if3.true in
+    let record_said = sym (b.bad_record.ensures l own) ∙ z.before.if-bad_record.false in
+    let sizes_said = sym z.bad_sizes.ensures ∙ c.if-bad_sizes.true in
     fault_refused_as a.words.now a.rx.now a.tx.now a.kind 1 (rw (link, record_said, sizes_said)))
     (λ c κs. search rules)
     (λ c. search rules)
@@ -59,11 +59,11 @@ fault_spec =
     let n = b.before.before.before in
     let a = n.before.before.before.before.before.before.args in
     let l = link_of a.words.now in
-    let link = linked a.words.now n.no_link.ensures b.before.before.if1.false in
+    let link = linked a.words.now n.no_link.ensures b.before.before.if-no_link.false in
     let own = own_words a.words.now link in
-    let record_said = sym (b.bad-record.ensures l own) ∙ z.before.if2.false in
-    let sizes_said = sym z.bad-sizes.ensures ∙ s.before.before.if3.false in
-    let stores_said = sym (s.bad_stores.ensures l own) ∙ c.if4.true in
+    let record_said = sym (b.bad_record.ensures l own) ∙ z.before.if-bad_record.false in
+    let sizes_said = sym z.bad_sizes.ensures ∙ s.before.before.if-bad_sizes.false in
+    let stores_said = sym (s.bad_stores.ensures l own) ∙ c.if-bad_stores.true in
     fault_refused_as a.words.now a.rx.now a.tx.now a.kind 0 (rw (link, record_said, sizes_said, stores_said)))
     (λ c κs. search rules)
     (λ c. search rules)
@@ -75,12 +75,12 @@ fault_spec =
     let n = b.before.before.before in
     let a = n.before.before.before.before.before.before.args in
     let l = link_of a.words.now in
-    let link = linked a.words.now n.no_link.ensures b.before.before.if1.false in
+    let link = linked a.words.now n.no_link.ensures b.before.before.if-no_link.false in
     let own = own_words a.words.now link in
-    let record_said = sym (b.bad-record.ensures l own) ∙ z.before.if2.false in
-    let sizes_said = sym z.bad-sizes.ensures ∙ s.before.before.if3.false in
-    let stores_said = sym (s.bad_stores.ensures l own) ∙ f.before.if4.false in
-    let fault_said = sym f.no-fault.ensures ∙ c.if5.true in
+    let record_said = sym (b.bad_record.ensures l own) ∙ z.before.if-bad_record.false in
+    let sizes_said = sym z.bad_sizes.ensures ∙ s.before.before.if-bad_sizes.false in
+    let stores_said = sym (s.bad_stores.ensures l own) ∙ f.before.if-bad_stores.false in
+    let fault_said = sym f.no_fault.ensures ∙ c.if-no_fault.true in
     fault_refused_as a.words.now a.rx.now a.tx.now a.kind 4 (rw (link, record_said, sizes_said, stores_said, fault_said)))
     (λ c κs. search rules)
     (λ c κs. search rules)
@@ -93,12 +93,12 @@ fault_spec =
     let n = b.before.before.before in
     let a = n.before.before.before.before.before.before.args in
     let l = link_of a.words.now in
-    let link = linked a.words.now n.no_link.ensures b.before.before.if1.false in
+    let link = linked a.words.now n.no_link.ensures b.before.before.if-no_link.false in
     let own = own_words a.words.now link in
-    let record_said = sym (b.bad-record.ensures l own) ∙ z.before.if2.false in
-    let sizes_said = sym z.bad-sizes.ensures ∙ s.before.before.if3.false in
-    let stores_said = sym (s.bad_stores.ensures l own) ∙ f.before.if4.false in
-    let fault_said = sym f.no-fault.ensures ∙ v.before.before.before.if5.false in
+    let record_said = sym (b.bad_record.ensures l own) ∙ z.before.if-bad_record.false in
+    let sizes_said = sym z.bad_sizes.ensures ∙ s.before.before.if-bad_sizes.false in
+    let stores_said = sym (s.bad_stores.ensures l own) ∙ f.before.if-bad_stores.false in
+    let fault_said = sym f.no_fault.ensures ∙ v.before.before.before.if-no_fault.false in
     let passed = refused.both a.words.now (length a.rx.now) (length a.tx.now) (rw (link, record_said, sizes_said, stores_said)) in
     passed.0.state)
     (λ c. search rules)
@@ -112,14 +112,14 @@ fault_spec =
     let n = b.before.before.before in
     let a = n.before.before.before.before.before.before.args in
     let l = link_of a.words.now in
-    let link = linked a.words.now n.no_link.ensures b.before.before.if1.false in
+    let link = linked a.words.now n.no_link.ensures b.before.before.if-no_link.false in
     let own = own_words a.words.now link in
-    let record_said = sym (b.bad-record.ensures l own) ∙ z.before.if2.false in
-    let sizes_said = sym z.bad-sizes.ensures ∙ s.before.before.if3.false in
-    let stores_said = sym (s.bad_stores.ensures l own) ∙ f.before.if4.false in
-    let fault_said = sym f.no-fault.ensures ∙ v.before.before.before.if5.false in
+    let record_said = sym (b.bad_record.ensures l own) ∙ z.before.if-bad_record.false in
+    let sizes_said = sym z.bad_sizes.ensures ∙ s.before.before.if-bad_sizes.false in
+    let stores_said = sym (s.bad_stores.ensures l own) ∙ f.before.if-bad_stores.false in
+    let fault_said = sym f.no_fault.ensures ∙ v.before.before.before.if-no_fault.false in
     let passed = refused.both a.words.now (length a.rx.now) (length a.tx.now) (rw (link, record_said, sizes_said, stores_said)) in
-    let event = v.fault-event.ensures l own ∙ ap (fault_event l) v.before.fault-of.ensures in
-    let left = e.settle.ensures passed.1 passed.2 l own in
+    let event = v.fault_event-event.ensures l own ∙ ap (fault_event l) v.before.fault_of.ensures in
+    let left = e.settle-discarded.ensures passed.1 passed.2 l own in
     rw (left.0, left.1, left.2, named a.kind fault_said (end_of a.words.now a.rx.now a.tx.now), event)
     (sym (accepted_left a.words.now a.rx.now a.tx.now (settles (fault_event l (fault_of a.kind)) (end_of a.words.now a.rx.now a.tx.now)) link passed.0.passes))))

@@ -23,7 +23,7 @@ put_spec =
     (λ c.
     let n = c.before in
     let a = n.before.before.before.before.before.before.args in
-    put_refused_as a.words.now a.tx.now a.nchar 0 (rw (unlinked a.words.now n.no_link.ensures c.if1.true)))
+    put_refused_as a.words.now a.tx.now a.nchar 0 (rw (unlinked a.words.now n.no_link.ensures c.if-no_link.true)))
     (λ c κs. search rules)
     (λ c. search rules)
     (λ c.
@@ -31,9 +31,9 @@ put_spec =
     let n = b.before.before.before in
     let a = n.before.before.before.before.before.before.args in
     let l = link_of a.words.now in
-    let link = linked a.words.now n.no_link.ensures b.before.before.if1.false in
+    let link = linked a.words.now n.no_link.ensures b.before.before.if-no_link.false in
     let own = own_words a.words.now link in
-    let record_said = sym (b.bad-record.ensures l own) ∙ c.if2.true in
+    let record_said = sym (b.bad_record.ensures l own) ∙ c.if-bad_record.true in
     put_refused_as a.words.now a.tx.now a.nchar 0 (rw (link, record_said)))
     (λ c κs. search rules)
     (λ c. search rules)
@@ -43,10 +43,10 @@ put_spec =
     let n = b.before.before.before in
     let a = n.before.before.before.before.before.before.args in
     let l = link_of a.words.now in
-    let link = linked a.words.now n.no_link.ensures b.before.before.if1.false in
+    let link = linked a.words.now n.no_link.ensures b.before.before.if-no_link.false in
     let own = own_words a.words.now link in
-    let record_said = sym (b.bad-record.ensures l own) ∙ z.before.if2.false in
-    let size_said = sym z.bad-tx-size.ensures ∙ c.if3.true in
+    let record_said = sym (b.bad_record.ensures l own) ∙ z.before.if-bad_record.false in
+    let size_said = sym z.bad_tx_size.ensures ∙ c.if-bad_tx_size.true in
     put_refused_as a.words.now a.tx.now a.nchar 1 (rw (link, record_said, size_said)))
     (λ c κs. search rules)
     (λ c. search rules)
@@ -57,11 +57,11 @@ put_spec =
     let n = b.before.before.before in
     let a = n.before.before.before.before.before.before.args in
     let l = link_of a.words.now in
-    let link = linked a.words.now n.no_link.ensures b.before.before.if1.false in
+    let link = linked a.words.now n.no_link.ensures b.before.before.if-no_link.false in
     let own = own_words a.words.now link in
-    let record_said = sym (b.bad-record.ensures l own) ∙ z.before.if2.false in
-    let size_said = sym z.bad-tx-size.ensures ∙ s.before.before.if3.false in
-    let Store_said = sym (s.bad-transmit.ensures l own) ∙ c.if4.true in
+    let record_said = sym (b.bad_record.ensures l own) ∙ z.before.if-bad_record.false in
+    let size_said = sym z.bad_tx_size.ensures ∙ s.before.before.if-bad_tx_size.false in
+    let Store_said = sym (s.bad_transmit.ensures l own) ∙ c.if-bad_transmit.true in
     put_refused_as a.words.now a.tx.now a.nchar 0 (rw (link, record_said, size_said, Store_said)))
     (λ c κs. search rules)
     (λ c. search rules)
@@ -73,12 +73,12 @@ put_spec =
     let n = b.before.before.before in
     let a = n.before.before.before.before.before.before.args in
     let l = link_of a.words.now in
-    let link = linked a.words.now n.no_link.ensures b.before.before.if1.false in
+    let link = linked a.words.now n.no_link.ensures b.before.before.if-no_link.false in
     let own = own_words a.words.now link in
-    let record_said = sym (b.bad-record.ensures l own) ∙ z.before.if2.false in
-    let size_said = sym z.bad-tx-size.ensures ∙ s.before.before.if3.false in
-    let Store_said = sym (s.bad-transmit.ensures l own) ∙ h.before.if4.false in
-    let char_said = ap above_eep (sym n.before.before.before.fitted.ensures) ∙ sym h.above_eep.ensures ∙ c.if5.true in
+    let record_said = sym (b.bad_record.ensures l own) ∙ z.before.if-bad_record.false in
+    let size_said = sym z.bad_tx_size.ensures ∙ s.before.before.if-bad_tx_size.false in
+    let Store_said = sym (s.bad_transmit.ensures l own) ∙ h.before.if-bad_transmit.false in
+    let char_said = ap above_eep (sym n.before.before.before.fitted-n.ensures) ∙ sym h.above_eep.ensures ∙ c.if-above_eep.true in
     put_refused_as a.words.now a.tx.now a.nchar 4 (rw (link, record_said, size_said, Store_said, char_said)))
     (λ c κs. search rules)
     (λ c. search rules)
@@ -91,13 +91,13 @@ put_spec =
     let n = b.before.before.before in
     let a = n.before.before.before.before.before.before.args in
     let l = link_of a.words.now in
-    let link = linked a.words.now n.no_link.ensures b.before.before.if1.false in
+    let link = linked a.words.now n.no_link.ensures b.before.before.if-no_link.false in
     let own = own_words a.words.now link in
-    let record_said = sym (b.bad-record.ensures l own) ∙ z.before.if2.false in
-    let size_said = sym z.bad-tx-size.ensures ∙ s.before.before.if3.false in
-    let Store_said = sym (s.bad-transmit.ensures l own) ∙ h.before.if4.false in
-    let char_said = ap above_eep (sym n.before.before.before.fitted.ensures) ∙ sym h.above_eep.ensures ∙ i.before.before.if5.false in
-    let place_said = sym (i.no_place.ensures l own) ∙ c.if6.true in
+    let record_said = sym (b.bad_record.ensures l own) ∙ z.before.if-bad_record.false in
+    let size_said = sym z.bad_tx_size.ensures ∙ s.before.before.if-bad_tx_size.false in
+    let Store_said = sym (s.bad_transmit.ensures l own) ∙ h.before.if-bad_transmit.false in
+    let char_said = ap above_eep (sym n.before.before.before.fitted-n.ensures) ∙ sym h.above_eep.ensures ∙ i.before.before.if-above_eep.false in
+    let place_said = sym (i.no_place.ensures l own) ∙ c.if-no_place.true in
     put_refused_as a.words.now a.tx.now a.nchar 9 (rw (link, record_said, size_said, Store_said, char_said, place_said)))
     (λ c κs. search rules)
     (λ c. search rules)
@@ -111,15 +111,15 @@ put_spec =
     let n = b.before.before.before in
     let a = n.before.before.before.before.before.before.args in
     let l = link_of a.words.now in
-    let link = linked a.words.now n.no_link.ensures b.before.before.if1.false in
+    let link = linked a.words.now n.no_link.ensures b.before.before.if-no_link.false in
     let own = own_words a.words.now link in
-    let record_said = sym (b.bad-record.ensures l own) ∙ z.before.if2.false in
-    let size_said = sym z.bad-tx-size.ensures ∙ s.before.before.if3.false in
-    let Store_said = sym (s.bad-transmit.ensures l own) ∙ h.before.if4.false in
-    let char_said = ap above_eep (sym n.before.before.before.fitted.ensures) ∙ sym h.above_eep.ensures ∙ i.before.before.if5.false in
-    let place_said = sym (i.no_place.ensures l own) ∙ e.before.before.before.if6.false in
+    let record_said = sym (b.bad_record.ensures l own) ∙ z.before.if-bad_record.false in
+    let size_said = sym z.bad_tx_size.ensures ∙ s.before.before.if-bad_tx_size.false in
+    let Store_said = sym (s.bad_transmit.ensures l own) ∙ h.before.if-bad_transmit.false in
+    let char_said = ap above_eep (sym n.before.before.before.fitted-n.ensures) ∙ sym h.above_eep.ensures ∙ i.before.before.if-above_eep.false in
+    let place_said = sym (i.no_place.ensures l own) ∙ e.before.before.before.if-no_place.false in
     let passed = refused.put a.words.now (length a.tx.now) (fitted a.nchar)
     (rw (link, record_said, size_said, Store_said, char_said, place_said)) in
-    let left = rw n.before.before.before.fitted.ensures at e.put_one.ensures in
+    let left = rw n.before.before.before.fitted-n.ensures at e.put_one-discarded.ensures in
     rw (left.0 passed.1 l own, left.1 l own, left.2 l own)
     (sym (put_accepted a.words.now a.tx.now a.nchar link passed.0.passes))))

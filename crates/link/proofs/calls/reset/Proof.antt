@@ -23,7 +23,7 @@ reset_spec =
     (λ c.
     let n = c.before in
     let a = n.before.before.before.before.before.before.args in
-    refused_as a.words.now a.rx.now a.tx.now (resets a.rx.now (link_of a.words.now)) 0 (rw (unlinked a.words.now n.no_link.ensures c.if1.true)))
+    refused_as a.words.now a.rx.now a.tx.now (resets a.rx.now (link_of a.words.now)) 0 (rw (unlinked a.words.now n.no_link.ensures c.if-no_link.true)))
     (λ c κs. search rules)
     (λ c. search rules)
     (λ c.
@@ -31,9 +31,9 @@ reset_spec =
     let n = b.before.before.before in
     let a = n.before.before.before.before.before.before.args in
     let l = link_of a.words.now in
-    let link = linked a.words.now n.no_link.ensures b.before.before.if1.false in
+    let link = linked a.words.now n.no_link.ensures b.before.before.if-no_link.false in
     let own = own_words a.words.now link in
-    let record_said = sym (b.bad-record.ensures l own) ∙ c.if2.true in
+    let record_said = sym (b.bad_record.ensures l own) ∙ c.if-bad_record.true in
     refused_as a.words.now a.rx.now a.tx.now (resets a.rx.now (link_of a.words.now)) 0 (rw (link, record_said)))
     (λ c κs. search rules)
     (λ c. search rules)
@@ -43,10 +43,10 @@ reset_spec =
     let n = b.before.before.before in
     let a = n.before.before.before.before.before.before.args in
     let l = link_of a.words.now in
-    let link = linked a.words.now n.no_link.ensures b.before.before.if1.false in
+    let link = linked a.words.now n.no_link.ensures b.before.before.if-no_link.false in
     let own = own_words a.words.now link in
-    let record_said = sym (b.bad-record.ensures l own) ∙ z.before.if2.false in
-    let sizes_said = sym z.bad-sizes.ensures ∙ c.if3.true in
+    let record_said = sym (b.bad_record.ensures l own) ∙ z.before.if-bad_record.false in
+    let sizes_said = sym z.bad_sizes.ensures ∙ c.if-bad_sizes.true in
     refused_as a.words.now a.rx.now a.tx.now (resets a.rx.now (link_of a.words.now)) 1 (rw (link, record_said, sizes_said)))
     (λ c κs. search rules)
     (λ c. search rules)
@@ -57,11 +57,11 @@ reset_spec =
     let n = b.before.before.before in
     let a = n.before.before.before.before.before.before.args in
     let l = link_of a.words.now in
-    let link = linked a.words.now n.no_link.ensures b.before.before.if1.false in
+    let link = linked a.words.now n.no_link.ensures b.before.before.if-no_link.false in
     let own = own_words a.words.now link in
-    let record_said = sym (b.bad-record.ensures l own) ∙ z.before.if2.false in
-    let sizes_said = sym z.bad-sizes.ensures ∙ s.before.before.if3.false in
-    let stores_said = sym (s.bad_stores.ensures l own) ∙ c.if4.true in
+    let record_said = sym (b.bad_record.ensures l own) ∙ z.before.if-bad_record.false in
+    let sizes_said = sym z.bad_sizes.ensures ∙ s.before.before.if-bad_sizes.false in
+    let stores_said = sym (s.bad_stores.ensures l own) ∙ c.if-bad_stores.true in
     refused_as a.words.now a.rx.now a.tx.now (resets a.rx.now (link_of a.words.now)) 0 (rw (link, record_said, sizes_said, stores_said)))
     (λ c κs. search rules)
     (λ c. search rules)
@@ -73,12 +73,12 @@ reset_spec =
     let n = b.before.before.before in
     let a = n.before.before.before.before.before.before.args in
     let l = link_of a.words.now in
-    let link = linked a.words.now n.no_link.ensures b.before.before.if1.false in
+    let link = linked a.words.now n.no_link.ensures b.before.before.if-no_link.false in
     let own = own_words a.words.now link in
-    let record_said = sym (b.bad-record.ensures l own) ∙ z.before.if2.false in
-    let sizes_said = sym z.bad-sizes.ensures ∙ s.before.before.if3.false in
-    let stores_said = sym (s.bad_stores.ensures l own) ∙ e.before.before.before.if4.false in
+    let record_said = sym (b.bad_record.ensures l own) ∙ z.before.if-bad_record.false in
+    let sizes_said = sym z.bad_sizes.ensures ∙ s.before.before.if-bad_sizes.false in
+    let stores_said = sym (s.bad_stores.ensures l own) ∙ e.before.before.before.if-bad_stores.false in
     let passed = refused.both a.words.now (length a.rx.now) (length a.tx.now) (rw (link, record_said, sizes_said, stores_said)) in
-    let left = e.reset-all.ensures in
+    let left = e.reset_all-discarded.ensures in
     rw (left.0 passed.1 l own, left.1 l own, left.2 l own)
     (sym (accepted_left a.words.now a.rx.now a.tx.now (resets a.rx.now l) link passed.0.passes))))

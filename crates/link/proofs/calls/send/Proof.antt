@@ -23,7 +23,7 @@ send_spec =
     (λ c.
     let n = c.before in
     let a = n.before.before.before.before.before.before.args in
-    send_refused_as a.words.now a.rx.now a.tx.now 0 (rw (unlinked a.words.now n.no_link.ensures c.if1.true)))
+    send_refused_as a.words.now a.rx.now a.tx.now 0 (rw (unlinked a.words.now n.no_link.ensures c.if-no_link.true)))
     (λ c κs. search rules)
     (λ c. search rules)
     (λ c.
@@ -31,9 +31,9 @@ send_spec =
     let n = b.before.before.before in
     let a = n.before.before.before.before.before.before.args in
     let l = link_of a.words.now in
-    let link = linked a.words.now n.no_link.ensures b.before.before.if1.false in
+    let link = linked a.words.now n.no_link.ensures b.before.before.if-no_link.false in
     let own = own_words a.words.now link in
-    let record_said = sym (b.bad-record.ensures l own) ∙ c.if2.true in
+    let record_said = sym (b.bad_record.ensures l own) ∙ c.if-bad_record.true in
     send_refused_as a.words.now a.rx.now a.tx.now 0 (rw (link, record_said)))
     (λ c κs. search rules)
     (λ c. search rules)
@@ -43,10 +43,10 @@ send_spec =
     let n = b.before.before.before in
     let a = n.before.before.before.before.before.before.args in
     let l = link_of a.words.now in
-    let link = linked a.words.now n.no_link.ensures b.before.before.if1.false in
+    let link = linked a.words.now n.no_link.ensures b.before.before.if-no_link.false in
     let own = own_words a.words.now link in
-    let record_said = sym (b.bad-record.ensures l own) ∙ z.before.if2.false in
-    let sizes_said = sym z.bad-sizes.ensures ∙ c.if3.true in
+    let record_said = sym (b.bad_record.ensures l own) ∙ z.before.if-bad_record.false in
+    let sizes_said = sym z.bad_sizes.ensures ∙ c.if-bad_sizes.true in
     send_refused_as a.words.now a.rx.now a.tx.now 1 (rw (link, record_said, sizes_said)))
     (λ c κs. search rules)
     (λ c. search rules)
@@ -57,11 +57,11 @@ send_spec =
     let n = b.before.before.before in
     let a = n.before.before.before.before.before.before.args in
     let l = link_of a.words.now in
-    let link = linked a.words.now n.no_link.ensures b.before.before.if1.false in
+    let link = linked a.words.now n.no_link.ensures b.before.before.if-no_link.false in
     let own = own_words a.words.now link in
-    let record_said = sym (b.bad-record.ensures l own) ∙ z.before.if2.false in
-    let sizes_said = sym z.bad-sizes.ensures ∙ s.before.before.if3.false in
-    let stores_said = sym (s.bad_stores.ensures l own) ∙ c.if4.true in
+    let record_said = sym (b.bad_record.ensures l own) ∙ z.before.if-bad_record.false in
+    let sizes_said = sym z.bad_sizes.ensures ∙ s.before.before.if-bad_sizes.false in
+    let stores_said = sym (s.bad_stores.ensures l own) ∙ c.if-bad_stores.true in
     send_refused_as a.words.now a.rx.now a.tx.now 0 (rw (link, record_said, sizes_said, stores_said)))
     (λ c κs. search rules)
     (λ c κs. search rules)
@@ -74,13 +74,13 @@ send_spec =
     let n = b.before.before.before in
     let a = n.before.before.before.before.before.before.args in
     let l = link_of a.words.now in
-    let link = linked a.words.now n.no_link.ensures b.before.before.if1.false in
+    let link = linked a.words.now n.no_link.ensures b.before.before.if-no_link.false in
     let own = own_words a.words.now link in
-    let record_said = sym (b.bad-record.ensures l own) ∙ z.before.if2.false in
-    let sizes_said = sym z.bad-sizes.ensures ∙ s.before.before.if3.false in
-    let stores_said = sym (s.bad_stores.ensures l own) ∙ d.before.before.if4.false in
+    let record_said = sym (b.bad_record.ensures l own) ∙ z.before.if-bad_record.false in
+    let sizes_said = sym z.bad_sizes.ensures ∙ s.before.before.if-bad_sizes.false in
+    let stores_said = sym (s.bad_stores.ensures l own) ∙ d.before.before.if-bad_stores.false in
     let passed = refused.both a.words.now (length a.rx.now) (length a.tx.now) (rw (link, record_said, sizes_said, stores_said)) in
-    state_small _ (booked a.tx.now l d.choose.result) (k.book.ensures passed.2 l own passed.0.good))
+    state_small _ (booked a.tx.now l d.choose-sent.result) (k.book.ensures passed.2 l own passed.0.good))
     (λ c κs. search rules)
     (λ c. search rules)
     (λ c κs. search rules)
@@ -96,16 +96,16 @@ send_spec =
     let n = b.before.before.before in
     let a = n.before.before.before.before.before.before.args in
     let l = link_of a.words.now in
-    let link = linked a.words.now n.no_link.ensures b.before.before.if1.false in
+    let link = linked a.words.now n.no_link.ensures b.before.before.if-no_link.false in
     let own = own_words a.words.now link in
-    let record_said = sym (b.bad-record.ensures l own) ∙ z.before.if2.false in
-    let sizes_said = sym z.bad-sizes.ensures ∙ s.before.before.if3.false in
-    let stores_said = sym (s.bad_stores.ensures l own) ∙ d.before.before.if4.false in
+    let record_said = sym (b.bad_record.ensures l own) ∙ z.before.if-bad_record.false in
+    let sizes_said = sym z.bad_sizes.ensures ∙ s.before.before.if-bad_sizes.false in
+    let stores_said = sym (s.bad_stores.ensures l own) ∙ d.before.before.if-bad_stores.false in
     let passed = refused.both a.words.now (length a.rx.now) (length a.tx.now) (rw (link, record_said, sizes_said, stores_said)) in
-    let left = e.settle.ensures passed.1 passed.2 (booked a.tx.now l d.choose.result)
+    let left = e.settle-discarded.ensures passed.1 passed.2 (booked a.tx.now l d.choose-sent.result)
     (k.book.ensures passed.2 l own passed.0.good) in
-    rw (c.before.before.sent-kind.ensures, c.before.sent-value.ensures, left.0, left.1, left.2)
+    rw (c.before.before.sent_kind-kind.ensures, c.before.sent_value-value.ensures, left.0, left.1, left.2)
     (sym (send_accepted a.words.now a.rx.now a.tx.now link passed.0.passes
-    (record { link = booked a.tx.now l d.choose.result; sent = d.choose.result })
-    (rw (d.choose.ensures l own passed.0.good))
-    (settles Quiet (record { link = booked a.tx.now l d.choose.result; rx = a.rx.now; tx = a.tx.now })) refl))))
+    (record { link = booked a.tx.now l d.choose-sent.result; sent = d.choose-sent.result })
+    (rw (d.choose-sent.ensures l own passed.0.good))
+    (settles Quiet (record { link = booked a.tx.now l d.choose-sent.result; rx = a.rx.now; tx = a.tx.now })) refl))))

@@ -20,7 +20,7 @@ take_spec =
     (λ c.
     let n = c.before in
     let a = n.before.before.before.before.before.args in
-    take_refused_as a.words.now a.rx.now 0 (rw (unlinked a.words.now n.no_link.ensures c.if1.true)))
+    take_refused_as a.words.now a.rx.now 0 (rw (unlinked a.words.now n.no_link.ensures c.if-no_link.true)))
     (λ c κs. search rules)
     (λ c. search rules)
     (λ c.
@@ -28,9 +28,9 @@ take_spec =
     let n = b.before.before.before in
     let a = n.before.before.before.before.before.args in
     let l = link_of a.words.now in
-    let link = linked a.words.now n.no_link.ensures b.before.before.if1.false in
+    let link = linked a.words.now n.no_link.ensures b.before.before.if-no_link.false in
     let own = own_words a.words.now link in
-    let record_said = sym (b.bad-record.ensures l own) ∙ c.if2.true in
+    let record_said = sym (b.bad_record.ensures l own) ∙ c.if-bad_record.true in
     take_refused_as a.words.now a.rx.now 0 (rw (link, record_said)))
     (λ c κs. search rules)
     (λ c. search rules)
@@ -40,10 +40,10 @@ take_spec =
     let n = b.before.before.before in
     let a = n.before.before.before.before.before.args in
     let l = link_of a.words.now in
-    let link = linked a.words.now n.no_link.ensures b.before.before.if1.false in
+    let link = linked a.words.now n.no_link.ensures b.before.before.if-no_link.false in
     let own = own_words a.words.now link in
-    let record_said = sym (b.bad-record.ensures l own) ∙ z.before.if2.false in
-    let size_said = sym z.bad-rx-size.ensures ∙ c.if3.true in
+    let record_said = sym (b.bad_record.ensures l own) ∙ z.before.if-bad_record.false in
+    let size_said = sym z.bad_rx_size.ensures ∙ c.if-bad_rx_size.true in
     take_refused_as a.words.now a.rx.now 1 (rw (link, record_said, size_said)))
     (λ c κs. search rules)
     (λ c. search rules)
@@ -54,11 +54,11 @@ take_spec =
     let n = b.before.before.before in
     let a = n.before.before.before.before.before.args in
     let l = link_of a.words.now in
-    let link = linked a.words.now n.no_link.ensures b.before.before.if1.false in
+    let link = linked a.words.now n.no_link.ensures b.before.before.if-no_link.false in
     let own = own_words a.words.now link in
-    let record_said = sym (b.bad-record.ensures l own) ∙ z.before.if2.false in
-    let size_said = sym z.bad-rx-size.ensures ∙ s.before.before.if3.false in
-    let Store_said = sym (s.bad-receive.ensures l own) ∙ c.if4.true in
+    let record_said = sym (b.bad_record.ensures l own) ∙ z.before.if-bad_record.false in
+    let size_said = sym z.bad_rx_size.ensures ∙ s.before.before.if-bad_rx_size.false in
+    let Store_said = sym (s.bad_receive.ensures l own) ∙ c.if-bad_receive.true in
     take_refused_as a.words.now a.rx.now 0 (rw (link, record_said, size_said, Store_said)))
     (λ c κs. search rules)
     (λ c. search rules)
@@ -70,12 +70,12 @@ take_spec =
     let n = b.before.before.before in
     let a = n.before.before.before.before.before.args in
     let l = link_of a.words.now in
-    let link = linked a.words.now n.no_link.ensures b.before.before.if1.false in
+    let link = linked a.words.now n.no_link.ensures b.before.before.if-no_link.false in
     let own = own_words a.words.now link in
-    let record_said = sym (b.bad-record.ensures l own) ∙ z.before.if2.false in
-    let size_said = sym z.bad-rx-size.ensures ∙ s.before.before.if3.false in
-    let Store_said = sym (s.bad-receive.ensures l own) ∙ h.before.before.if4.false in
-    let empty_said = sym (h.is_empty.ensures l own) ∙ c.if5.true in
+    let record_said = sym (b.bad_record.ensures l own) ∙ z.before.if-bad_record.false in
+    let size_said = sym z.bad_rx_size.ensures ∙ s.before.before.if-bad_rx_size.false in
+    let Store_said = sym (s.bad_receive.ensures l own) ∙ h.before.before.if-bad_receive.false in
+    let empty_said = sym (h.is_empty.ensures l own) ∙ c.if-is_empty.true in
     take_refused_as a.words.now a.rx.now 8 (rw (link, record_said, size_said, Store_said, empty_said)))
     (λ c κs. search rules)
     (λ c. search rules)
@@ -88,12 +88,12 @@ take_spec =
     let n = b.before.before.before in
     let a = n.before.before.before.before.before.args in
     let l = link_of a.words.now in
-    let link = linked a.words.now n.no_link.ensures b.before.before.if1.false in
+    let link = linked a.words.now n.no_link.ensures b.before.before.if-no_link.false in
     let own = own_words a.words.now link in
-    let record_said = sym (b.bad-record.ensures l own) ∙ z.before.if2.false in
-    let size_said = sym z.bad-rx-size.ensures ∙ s.before.before.if3.false in
-    let Store_said = sym (s.bad-receive.ensures l own) ∙ h.before.before.if4.false in
-    let empty_said = sym (h.is_empty.ensures l own) ∙ e.before.before.if5.false in
+    let record_said = sym (b.bad_record.ensures l own) ∙ z.before.if-bad_record.false in
+    let size_said = sym z.bad_rx_size.ensures ∙ s.before.before.if-bad_rx_size.false in
+    let Store_said = sym (s.bad_receive.ensures l own) ∙ h.before.before.if-bad_receive.false in
+    let empty_said = sym (h.is_empty.ensures l own) ∙ e.before.before.if-is_empty.false in
     let passed = refused.take a.words.now (length a.rx.now) (rw (link, record_said, size_said, Store_said, empty_said)) in
-    let left = e.take-one.ensures in
+    let left = e.take_one-nchar.ensures in
     rw (left.0 passed.1 l own, left.1 l own) (sym (take_accepted_lem a.words.now a.rx.now link passed.0.passes))))

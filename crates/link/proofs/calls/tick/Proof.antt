@@ -25,7 +25,7 @@ tick_spec =
     (λ c.
     let n = c.before in
     let a = n.before.before.before.before.before.before.args in
-    refused_as a.words.now a.rx.now a.tx.now (settles Quiet (with_link (end_of a.words.now a.rx.now a.tx.now) (counted (link_of a.words.now)))) 0 (rw (unlinked a.words.now n.no_link.ensures c.if1.true)))
+    refused_as a.words.now a.rx.now a.tx.now (settles Quiet (with_link (end_of a.words.now a.rx.now a.tx.now) (counted (link_of a.words.now)))) 0 (rw (unlinked a.words.now n.no_link.ensures c.if-no_link.true)))
     (λ c κs. search rules)
     (λ c. search rules)
     (λ c.
@@ -33,9 +33,9 @@ tick_spec =
     let n = b.before.before.before in
     let a = n.before.before.before.before.before.before.args in
     let l = link_of a.words.now in
-    let link = linked a.words.now n.no_link.ensures b.before.before.if1.false in
+    let link = linked a.words.now n.no_link.ensures b.before.before.if-no_link.false in
     let own = own_words a.words.now link in
-    let record_said = sym (b.bad-record.ensures l own) ∙ c.if2.true in
+    let record_said = sym (b.bad_record.ensures l own) ∙ c.if-bad_record.true in
     refused_as a.words.now a.rx.now a.tx.now (settles Quiet (with_link (end_of a.words.now a.rx.now a.tx.now) (counted (link_of a.words.now)))) 0 (rw (link, record_said)))
     (λ c κs. search rules)
     (λ c. search rules)
@@ -45,10 +45,10 @@ tick_spec =
     let n = b.before.before.before in
     let a = n.before.before.before.before.before.before.args in
     let l = link_of a.words.now in
-    let link = linked a.words.now n.no_link.ensures b.before.before.if1.false in
+    let link = linked a.words.now n.no_link.ensures b.before.before.if-no_link.false in
     let own = own_words a.words.now link in
-    let record_said = sym (b.bad-record.ensures l own) ∙ z.before.if2.false in
-    let sizes_said = sym z.bad-sizes.ensures ∙ c.if3.true in
+    let record_said = sym (b.bad_record.ensures l own) ∙ z.before.if-bad_record.false in
+    let sizes_said = sym z.bad_sizes.ensures ∙ c.if-bad_sizes.true in
     refused_as a.words.now a.rx.now a.tx.now (settles Quiet (with_link (end_of a.words.now a.rx.now a.tx.now) (counted (link_of a.words.now)))) 1 (rw (link, record_said, sizes_said)))
     (λ c κs. search rules)
     (λ c. search rules)
@@ -59,11 +59,11 @@ tick_spec =
     let n = b.before.before.before in
     let a = n.before.before.before.before.before.before.args in
     let l = link_of a.words.now in
-    let link = linked a.words.now n.no_link.ensures b.before.before.if1.false in
+    let link = linked a.words.now n.no_link.ensures b.before.before.if-no_link.false in
     let own = own_words a.words.now link in
-    let record_said = sym (b.bad-record.ensures l own) ∙ z.before.if2.false in
-    let sizes_said = sym z.bad-sizes.ensures ∙ s.before.before.if3.false in
-    let stores_said = sym (s.bad_stores.ensures l own) ∙ c.if4.true in
+    let record_said = sym (b.bad_record.ensures l own) ∙ z.before.if-bad_record.false in
+    let sizes_said = sym z.bad_sizes.ensures ∙ s.before.before.if-bad_sizes.false in
+    let stores_said = sym (s.bad_stores.ensures l own) ∙ c.if-bad_stores.true in
     refused_as a.words.now a.rx.now a.tx.now (settles Quiet (with_link (end_of a.words.now a.rx.now a.tx.now) (counted (link_of a.words.now)))) 0 (rw (link, record_said, sizes_said, stores_said)))
     (λ c κs.
     let s = c.before.before in
@@ -72,11 +72,11 @@ tick_spec =
     let n = b.before.before.before in
     let a = n.before.before.before.before.before.before.args in
     let l = link_of a.words.now in
-    let link = linked a.words.now n.no_link.ensures b.before.before.if1.false in
+    let link = linked a.words.now n.no_link.ensures b.before.before.if-no_link.false in
     let own = own_words a.words.now link in
-    let record_said = sym (b.bad-record.ensures l own) ∙ z.before.if2.false in
-    let sizes_said = sym z.bad-sizes.ensures ∙ s.before.before.if3.false in
-    let stores_said = sym (s.bad_stores.ensures l own) ∙ c.before.if4.false in
+    let record_said = sym (b.bad_record.ensures l own) ∙ z.before.if-bad_record.false in
+    let sizes_said = sym z.bad_sizes.ensures ∙ s.before.before.if-bad_sizes.false in
+    let stores_said = sym (s.bad_stores.ensures l own) ∙ c.before.if-bad_stores.false in
     let passed = refused.both a.words.now (length a.rx.now) (length a.tx.now) (rw (link, record_said, sizes_said, stores_said)) in
     passed.0.timer)
     (λ c κs.
@@ -87,11 +87,11 @@ tick_spec =
     let n = b.before.before.before in
     let a = n.before.before.before.before.before.before.args in
     let l = link_of a.words.now in
-    let link = linked a.words.now n.no_link.ensures b.before.before.if1.false in
+    let link = linked a.words.now n.no_link.ensures b.before.before.if-no_link.false in
     let own = own_words a.words.now link in
-    let record_said = sym (b.bad-record.ensures l own) ∙ z.before.if2.false in
-    let sizes_said = sym z.bad-sizes.ensures ∙ s.before.before.if3.false in
-    let stores_said = sym (s.bad_stores.ensures l own) ∙ k.before.before.if4.false in
+    let record_said = sym (b.bad_record.ensures l own) ∙ z.before.if-bad_record.false in
+    let sizes_said = sym z.bad_sizes.ensures ∙ s.before.before.if-bad_sizes.false in
+    let stores_said = sym (s.bad_stores.ensures l own) ∙ k.before.before.if-bad_stores.false in
     let passed = refused.both a.words.now (length a.rx.now) (length a.tx.now) (rw (link, record_said, sizes_said, stores_said)) in
     state_small _ (counted l) (k.count.ensures l own))
     (λ c. search rules)
@@ -104,12 +104,12 @@ tick_spec =
     let n = b.before.before.before in
     let a = n.before.before.before.before.before.before.args in
     let l = link_of a.words.now in
-    let link = linked a.words.now n.no_link.ensures b.before.before.if1.false in
+    let link = linked a.words.now n.no_link.ensures b.before.before.if-no_link.false in
     let own = own_words a.words.now link in
-    let record_said = sym (b.bad-record.ensures l own) ∙ z.before.if2.false in
-    let sizes_said = sym z.bad-sizes.ensures ∙ s.before.before.if3.false in
-    let stores_said = sym (s.bad_stores.ensures l own) ∙ k.before.before.if4.false in
+    let record_said = sym (b.bad_record.ensures l own) ∙ z.before.if-bad_record.false in
+    let sizes_said = sym z.bad_sizes.ensures ∙ s.before.before.if-bad_sizes.false in
+    let stores_said = sym (s.bad_stores.ensures l own) ∙ k.before.before.if-bad_stores.false in
     let passed = refused.both a.words.now (length a.rx.now) (length a.tx.now) (rw (link, record_said, sizes_said, stores_said)) in
-    let left = e.settle.ensures passed.1 passed.2 (counted l) (k.count.ensures l own) in
+    let left = e.settle-discarded.ensures passed.1 passed.2 (counted l) (k.count.ensures l own) in
     rw (left.0, left.1, left.2)
     (sym (accepted_left a.words.now a.rx.now a.tx.now (settles Quiet (with_link (end_of a.words.now a.rx.now a.tx.now) (counted l))) link passed.0.passes))))

@@ -19,7 +19,7 @@ set_tx_spec =
     (λ c. λ fits l e.
     rw (
       c.before.narrow.ensures,
-      c.narrow2.ensures,
+      c.narrow-2.ensures,
       narrow_back c.before.before.args.s.front fits.0,
       narrow_back c.before.before.args.s.len fits.1,
       e,

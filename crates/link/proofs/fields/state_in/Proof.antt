@@ -14,4 +14,4 @@ state_in_spec =
     (tie.spec
     (λ c. search rules)
     (λ c κs. search rules)
-    (λ c. λ l e. c.state-of.ensures ∙ rw e (state_of_number l.stage.state)))
+    (λ c. λ l e. c.state_of.ensures ∙ rw e (state_of_number l.stage.state)))

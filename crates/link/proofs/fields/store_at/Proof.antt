@@ -21,7 +21,7 @@ store_at_spec =
     (λ c. let start = c.before.before.before.before in (
       c.store_of.ensures,
       rw c.store_of.ensures (
-        omega (arith, c.before.before.shared-slice-known2.given start.args.k),
-        omega (arith, c.before.shared-slice-known3.given (start.args.k + 1)),
+        omega (arith, c.before.before.shared_slice_known-2-1.given start.args.k),
+        omega (arith, c.before.shared_slice_known-3-1.given (start.args.k + 1)),
       ),
     )))

@@ -21,9 +21,9 @@ put_one_spec =
     let b = c.before.before in
     let read = b.before.truth.ensures in (
       λ small l e.
-          c.put_discarded.ensures l e ∙ rw (truth_told l e DISCARDING l.marks.discarding refl read b.if1.true),
-      λ l e. rw (truth_told l e DISCARDING l.marks.discarding refl read b.if1.true),
-      λ l e. rw (truth_told l e DISCARDING l.marks.discarding refl read b.if1.true),
+          c.put_discarded.ensures l e ∙ rw (truth_told l e DISCARDING l.marks.discarding refl read b.if-truth.true),
+      λ l e. rw (truth_told l e DISCARDING l.marks.discarding refl read b.if-truth.true),
+      λ l e. rw (truth_told l e DISCARDING l.marks.discarding refl read b.if-truth.true),
     ))
     (λ c. search rules)
     (λ c.
@@ -31,7 +31,7 @@ put_one_spec =
     let b = c.before.before.before.before.before in
     let read = b.before.truth.ensures in (
       λ small l e.
-          stored.0 small l e ∙ rw (truth_told l e DISCARDING l.marks.discarding refl read b.if1.false),
-      λ l e. rw (truth_told l e DISCARDING l.marks.discarding refl read b.if1.false),
-      λ l e. stored.1 l e ∙ rw (truth_told l e DISCARDING l.marks.discarding refl read b.if1.false),
+          stored.0 small l e ∙ rw (truth_told l e DISCARDING l.marks.discarding refl read b.if-truth.false),
+      λ l e. rw (truth_told l e DISCARDING l.marks.discarding refl read b.if-truth.false),
+      λ l e. stored.1 l e ∙ rw (truth_told l e DISCARDING l.marks.discarding refl read b.if-truth.false),
     )))

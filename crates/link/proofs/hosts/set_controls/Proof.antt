@@ -20,11 +20,11 @@ set_controls_spec =
     (λ c κs. search rules)
     (λ c l e.
     rw (
-      c.set-truth3.ensures,
-      c.before.truth3.ensures,
-      c.before.before.before.set-truth2.ensures,
-      c.before.before.before.before.truth2.ensures,
-      c.before.before.before.before.before.before.set-truth.ensures,
+      c.set_truth-3.ensures,
+      c.before.truth-3.ensures,
+      c.before.before.before.set_truth-2.ensures,
+      c.before.before.before.before.truth-2.ensures,
+      c.before.before.before.before.before.before.set_truth.ensures,
       c.before.before.before.before.before.before.before.truth.ensures,
       e,
     )))

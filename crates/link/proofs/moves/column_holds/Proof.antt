@@ -19,10 +19,10 @@ column_holds_spec =
     (λ c. search rules)
     (λ c κs. search rules)
     (λ c κs. search rules)
-    (λ c l e. c.is-enabled.ensures l e ∙ sym (rw c.before.match.keys1))
-    (λ c l e. c.exchanged.ensures l e ∙ sym (rw c.before.match.keys2))
+    (λ c l e. c.is_enabled.ensures l e ∙ sym (rw c.in-6.is))
+    (λ c l e. c.exchanged.ensures l e ∙ sym (rw c.in-7.is))
     (λ c l e.
-    truth_read l e DISABLED l.controls.disabled refl c.truth.ensures ∙ sym (rw c.before.before.match.keys3))
+    truth_read l e DISABLED l.controls.disabled refl c.truth.ensures ∙ sym (rw c.in-8.is))
     (λ c l e.
-    let rest = c.before.match.rest in
-    c.at-limit.ensures l e ∙ sym (rw (ne_eqb _ _ rest.0.0.1, ne_eqb _ _ rest.0.1, ne_eqb _ _ rest.1))))
+    let rest = c.in_default.in_default-own.rest in
+    c.at_limit.ensures l e ∙ sym (rw (ne_eqb _ _ rest.0.0.1, ne_eqb _ _ rest.0.1, ne_eqb _ _ rest.1))))

@@ -23,16 +23,16 @@ got_n_char_spec =
     (λ c small l e g.
     let a = c.before.before.before.before.before in
     let b = c.before.before in
-    let none : b.none-given.result ≡ none_given l.credit.given.0 =
-    b.none-given.ensures ∙ rw (b.before.given-in.ensures l e g) in
-    rw (← a.before.is-in.ensures l e, a.if1.true, ← none, c.before.if2.true) (c.heard.ensures, e, refl))
+    let none : b.none_given.result ≡ none_given l.credit.given.0 =
+    b.none_given.ensures ∙ rw (b.before.given_in.ensures l e g) in
+    rw (← a.before.is_in.ensures l e, a.if-is_in.true, ← none, c.before.if-none_given.true) (c.heard.ensures, e, refl))
     (λ c. search rules)
     (λ c small l e g.
     let a = c.before.before.before.before.before.before.before.before.before.before in
     let b = c.before.before.before.before.before.before.before in
-    let none : b.none-given.result ≡ none_given l.credit.given.0 =
-    b.none-given.ensures ∙ rw (b.before.given-in.ensures l e g) in
-    let stored = c.before.before.before.store-n-char.ensures in
-    rw (← a.before.is-in.ensures l e, a.if1.true, ← none, c.before.before.before.before.before.before.if2.false)
-    (c.heard2.ensures, stored.0 small l e g, stored.1 l e))
-    (λ c small l e g. rw (← c.before.before.is-in.ensures l e, c.before.if1.false) (c.heard3.ensures, e, refl)))
+    let none : b.none_given.result ≡ none_given l.credit.given.0 =
+    b.none_given.ensures ∙ rw (b.before.given_in.ensures l e g) in
+    let stored = c.before.before.before.store_n_char.ensures in
+    rw (← a.before.is_in.ensures l e, a.if-is_in.true, ← none, c.before.before.before.before.before.before.if-none_given.false)
+    (c.heard-else-none_given.ensures, stored.0 small l e g, stored.1 l e))
+    (λ c small l e g. rw (← c.before.before.is_in.ensures l e, c.before.if-is_in.false) (c.heard-else-is_in.ensures, e, refl)))

@@ -13,4 +13,4 @@ got_null_spec =
     tie.close
     (tie.spec
     (λ c κs. search rules)
-    (λ c l e. rw (c.set-truth.ensures, e)))
+    (λ c l e. rw (c.set_truth.ensures, e)))

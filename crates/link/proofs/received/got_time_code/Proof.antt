@@ -17,5 +17,5 @@ got_time_code_spec =
     (λ c κs. search rules)
     (λ c l e.
     let b = c.before.before in
-    rw (← b.before.is-in.ensures l e, b.if1.true, ← c.before.after.ensures) c.heard.ensures)
-    (λ c l e. rw (← c.before.before.is-in.ensures l e, c.before.if1.false) c.heard2.ensures))
+    rw (← b.before.is_in.ensures l e, b.if-is_in.true, ← c.before.after-next.ensures) c.heard.ensures)
+    (λ c l e. rw (← c.before.before.is_in.ensures l e, c.before.if-is_in.false) c.heard-else-is_in.ensures))

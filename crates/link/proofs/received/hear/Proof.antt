@@ -41,15 +41,15 @@ hear_spec =
     (λ c. search rules)
     (λ c κs. search rules)
     (λ c small l e g.
-    let is = c.before.before.before.enum_told.given.1 in
-    rw is (c.heard.ensures, c.before.got-null.ensures l e, refl))
+    let is = c.in-Null.is in
+    rw is (c.heard.ensures, c.before.got_null.ensures l e, refl))
     (λ c small l e g.
-    let fct = c.got-fct.ensures l e g in
-    rw c.before.before.enum-told2.given.1 (fct.0, fct.1, refl))
+    let fct = c.got_fct.ensures l e g in
+    rw c.in-Fct.is (fct.0, fct.1, refl))
     (λ c. search rules)
     (λ c small l e g.
-    let is = c.before.before.before.before.before.before.t.given.1 in
-    rw is (c.before.before.got-n-char.ensures small l e g))
+    let is = c.in-NChar.is in
+    rw is (c.before.before.got_n_char.ensures small l e g))
     (λ c small l e g.
     let kept = e ∙ ap link_words (sym (time_code_keeps l _ _)) in
-    rw c.before.before.before.t2.given.1 (c.got-time-code.ensures l e, kept, refl)))
+    rw c.in-TimeCode.is (c.got_time_code.ensures l e, kept, refl)))

@@ -17,8 +17,8 @@ token_spec =
     (λ c κs. search rules)
     (λ c small l e g.
     let b = c.before in
-    rw (← b.before.ignores-token.ensures l e, b.if1.true) (c.heard.ensures, e, refl))
+    rw (← b.before.ignores_token.ensures l e, b.if-ignores_token.true) (c.heard.ensures, e, refl))
     (λ c. search rules)
     (λ c small l e g.
     let b = c.before.before.before.before.before in
-    rw (← b.before.ignores-token.ensures l e, b.if1.false) (c.before.before.hear.ensures small l e g)))
+    rw (← b.before.ignores_token.ensures l e, b.if-ignores_token.false) (c.before.before.hear.ensures small l e g)))

@@ -28,22 +28,22 @@ close_spec =
     let r = p.before.before.before in
     let b = r.before.before in
     let rx = b.before.before.before.before.args.rx.now in
-    let store = r.rx-in.result in (
+    let store = r.rx_in-store.result in (
       λ small l e.
           rw (
-            c.set-rx.ensures (rw p.put.ensures.0 (put_fits rx store small r.rx-in.ensures.1 EEP)) l e,
+            c.set_rx.ensures (rw p.put.ensures.0 (put_fits rx store small r.rx_in-store.ensures.1 EEP)) l e,
             p.put.ensures.0,
-            r.rx-in.ensures.0 l e,
-            truth_told l e STORED l.marks.stored refl b.before.truth.ensures b.if1.true,
+            r.rx_in-store.ensures.0 l e,
+            truth_told l e STORED l.marks.stored refl b.before.truth.ensures b.if-truth.true,
           ),
       λ l e.
           rw (
             p.put.ensures.1,
-            r.rx-in.ensures.0 l e,
-            truth_told l e STORED l.marks.stored refl b.before.truth.ensures b.if1.true,
+            r.rx_in-store.ensures.0 l e,
+            truth_told l e STORED l.marks.stored refl b.before.truth.ensures b.if-truth.true,
           ),
     ))
     (λ c. (
-      λ small l e. e ∙ rw (truth_told l e STORED l.marks.stored refl c.before.truth.ensures c.if1.false),
-      λ l e. rw (truth_told l e STORED l.marks.stored refl c.before.truth.ensures c.if1.false),
+      λ small l e. e ∙ rw (truth_told l e STORED l.marks.stored refl c.before.truth.ensures c.if-truth.false),
+      λ l e. rw (truth_told l e STORED l.marks.stored refl c.before.truth.ensures c.if-truth.false),
     )))

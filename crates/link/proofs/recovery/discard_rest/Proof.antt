@@ -34,17 +34,17 @@ discard_rest_spec =
     let b = t.before.before in
     let tx = b.before.before.before.before.args.tx.now in (
       λ small l e.
-          let fits = drop_fits tx t.tx-in.result small t.tx-in.ensures.1 f.find_end.result.count in
-          let left = s.set-tx.ensures (rw d.drop_found.ensures fits) l e in
-          let sent = truth_told l e SENT l.marks.sent refl b.before.truth.ensures b.if1.true in
-          let found = rw (t.tx-in.ensures.0 l e) at f.find_end.ensures in
+          let fits = drop_fits tx t.tx_in-store.result small t.tx_in-store.ensures.1 f.find_end-found.result.count in
+          let left = s.set_tx.ensures (rw d.drop_found.ensures fits) l e in
+          let sent = truth_told l e SENT l.marks.sent refl b.before.truth.ensures b.if-truth.true in
+          let found = rw (t.tx_in-store.ensures.0 l e) at f.find_end-found.ensures in
           ⊎_elim
           (λ w.
           rw (
             w.1,
             left,
             d.drop_found.ensures,
-            t.tx-in.ensures.0 l e,
+            t.tx_in-store.ensures.0 l e,
             sent,
             ← found,
             w.0.taken,
@@ -55,22 +55,22 @@ discard_rest_spec =
             w.1,
             left,
             d.drop_found.ensures,
-            t.tx-in.ensures.0 l e,
+            t.tx_in-store.ensures.0 l e,
             sent,
             ← found,
             w.0.left,
             or-false l.marks.discarding,
           ))
-          c.before.if2.branch,
+          c.before.if-not-found.branch,
       λ l e.
           rw (
             c.narrow.ensures,
-            f.find_end.ensures,
-            t.tx-in.ensures.0 l e,
-            truth_told l e SENT l.marks.sent refl b.before.truth.ensures b.if1.true,
+            f.find_end-found.ensures,
+            t.tx_in-store.ensures.0 l e,
+            truth_told l e SENT l.marks.sent refl b.before.truth.ensures b.if-truth.true,
           ),
     ))
     (λ c. (
-      λ small l e. e ∙ rw (truth_told l e SENT l.marks.sent refl c.before.truth.ensures c.if1.false),
-      λ l e. rw (truth_told l e SENT l.marks.sent refl c.before.truth.ensures c.if1.false),
+      λ small l e. e ∙ rw (truth_told l e SENT l.marks.sent refl c.before.truth.ensures c.if-truth.false),
+      λ l e. rw (truth_told l e SENT l.marks.sent refl c.before.truth.ensures c.if-truth.false),
     )))

@@ -31,19 +31,19 @@ empty_receive_spec =
     let rx = b.before.before.before.before.args.rx.now in (
       λ small l e.
           let put = rw f.fresh.ensures at p.put.ensures.0 in
-          c.set-rx.ensures (rw put (put_fits rx fresh_store small fresh_fits EEP)) l e
-          ∙ sym (rw (truth_told l e TAKEN l.marks.taken refl b.before.truth.ensures b.if1.true, put)),
+          c.set_rx.ensures (rw put (put_fits rx fresh_store small fresh_fits EEP)) l e
+          ∙ sym (rw (truth_told l e TAKEN l.marks.taken refl b.before.truth.ensures b.if-truth.true, put)),
       λ l e.
           rw (
             p.put.ensures.1,
             f.fresh.ensures,
-            truth_told l e TAKEN l.marks.taken refl b.before.truth.ensures b.if1.true,
+            truth_told l e TAKEN l.marks.taken refl b.before.truth.ensures b.if-truth.true,
           ),
     ))
     (λ c.
     let b = c.before.before.before in (
       λ small l e.
-          let taken = truth_told l e TAKEN l.marks.taken refl b.before.truth.ensures b.if1.false in
-          c.set-rx2.ensures (rw c.before.fresh2.ensures fresh_fits) l e ∙ rw (c.before.fresh2.ensures, taken),
-      λ l e. rw (truth_told l e TAKEN l.marks.taken refl b.before.truth.ensures b.if1.false),
+          let taken = truth_told l e TAKEN l.marks.taken refl b.before.truth.ensures b.if-truth.false in
+          c.set_rx-else-truth.ensures (rw c.before.fresh-else-truth.ensures fresh_fits) l e ∙ rw (c.before.fresh-else-truth.ensures, taken),
+      λ l e. rw (truth_told l e TAKEN l.marks.taken refl b.before.truth.ensures b.if-truth.false),
     )))

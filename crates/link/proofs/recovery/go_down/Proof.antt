@@ -22,7 +22,7 @@ go_down_spec =
     let clear = a.clear.ensures l e in
     let closed = closed_link (length places) (cleared l) in
     let close = b.close.ensures.0 rx (cleared l) clear in (
-      c.discard-rest.ensures.0 tx closed close,
-      c.discard-rest.ensures.1 closed close,
+      c.discard_rest.ensures.0 tx closed close,
+      c.discard_rest.ensures.1 closed close,
       b.close.ensures.1 (cleared l) clear,
     )))

@@ -37,8 +37,8 @@ move_to_spec =
     rw
     (falls (state_of a.next) (record { link = l; rx = a.rx.now; tx = a.tx.now })
     (λ same. other (sym is ∙ same ∙ sym (state_read l e)))
-    (is ∙ b.if1.true))
-    (g.go-down.ensures rx tx l e))
+    (is ∙ b.if-next-eq0.true))
+    (g.go_down.ensures rx tx l e))
     (λ c small other rx tx l e.
     let b = c.before.before in
     let a = b.before.before.before.args in
@@ -46,5 +46,5 @@ move_to_spec =
     rw
     (goes (state_of a.next) (record { link = l; rx = a.rx.now; tx = a.tx.now })
     (λ same. other (sym is ∙ same ∙ sym (state_read l e)))
-    (λ zero. b.if1.false (sym is ∙ zero)))
+    (λ zero. b.if-next-eq0.false (sym is ∙ zero)))
     (c.enter.ensures small l e, refl, refl)))

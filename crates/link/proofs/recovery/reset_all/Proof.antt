@@ -36,12 +36,12 @@ reset_all_spec =
     let sent = a.before.before in
     let rx = sent.before.before.before.args.rx.now in (
       λ small l e.
-          let receive = r.empty-receive.ensures.0 small (cleared l) (a.clear.ensures l e) in
+          let receive = r.empty_receive.ensures.0 small (cleared l) (a.clear.ensures l e) in
           let emptied = with_rx (cleared l) (pick l.marks.taken (put_store (length rx) fresh_store EEP) fresh_store) in
           rw (
-            t.set-tx.ensures (rw t.before.fresh.ensures fresh_fits) emptied receive,
+            t.set_tx.ensures (rw t.before.fresh.ensures fresh_fits) emptied receive,
             t.before.fresh.ensures,
           ),
-      λ l e. rw (c.narrow.ensures, sent.tx-in.ensures.0 l e),
-      λ l e. r.empty-receive.ensures.1 (cleared l) (a.clear.ensures l e),
+      λ l e. rw (c.narrow.ensures, sent.tx_in-transmit.ensures.0 l e),
+      λ l e. r.empty_receive.ensures.1 (cleared l) (a.clear.ensures l e),
     )))

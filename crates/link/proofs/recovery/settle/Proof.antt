@@ -29,7 +29,7 @@ settle_spec =
     let a = n.before.before.before.before.args in
     rw
     (stays (next_state a.e l) (record { link = l; rx = a.rx.now; tx = a.tx.now })
-    (sym (n.next-state.ensures l e) ∙ c.if1.true ∙ state_read l e))
+    (sym (n.next_state-next.ensures l e) ∙ c.if-next-words.true ∙ state_read l e))
     (e, refl, refl))
     (λ c. search rules)
     (λ c rx tx l e.
@@ -37,5 +37,5 @@ settle_spec =
     let b = m.before.before.before in
     let n = b.before.before in
     let s = next_state n.before.before.before.before.args.e l in
-    let next = n.next-state.ensures l e in
-    rw (next, state_of_number s) at (m.move-to.ensures (rw next (number_small s)) b.if1.false rx tx l e)))
+    let next = n.next_state-next.ensures l e in
+    rw (next, state_of_number s) at (m.move_to.ensures (rw next (number_small s)) b.if-next-words.false rx tx l e)))

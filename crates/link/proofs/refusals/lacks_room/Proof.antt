@@ -33,10 +33,10 @@ lacks_room_spec =
     (λ c κs. search rules)
     (λ c. λ l e.
     rw (
-      c.before.before.before.before.wide.ensures,
+      c.before.before.before.before.wide-given.ensures,
       c.truth.ensures,
-      c.before.before.free_places.ensures,
-      c.before.before.before.rx-in.ensures.0 l e,
+      c.before.before.free_places-free.ensures,
+      c.before.before.before.rx_in.ensures.0 l e,
       e,
       truth_back l.marks.stored,
       at_most (free c.before.before.before.before.before.before.args.size l.rx) l.credit.given.0,

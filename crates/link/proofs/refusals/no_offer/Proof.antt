@@ -21,7 +21,7 @@ pub no_offer_spec : {M : Type 1} → statement M
 no_offer_spec =
     tie.close
     (tie.spec
-    (λ c. rw c.match.keys1)
-    (λ c. rw c.match.keys2 (above_byte c.before.args.code))
+    (λ c. rw c.in-0.is)
+    (λ c. rw c.in-1.is (above_byte c.before.args.code))
     (λ c. let offered = c.before.args.offered in
     rw (ne_eqb offered 0 (λ e. omega arith), ne_eqb offered 1 (λ e. omega arith))))

@@ -19,7 +19,7 @@ no_place_spec =
     rw (
       c.before.before.truth.ensures,
       c.is_full.ensures,
-      c.before.tx-in.ensures.0 l e,
+      c.before.tx_in.ensures.0 l e,
       e,
       truth_back l.marks.discarding,
     )))

@@ -18,16 +18,16 @@ choose_spec =
     (λ c κs. search rules)
     (λ c. search rules)
     (λ c κs. search rules)
-    (λ c l e g. rw (← c.before.before.state-in.ensures l e, c.enum_told.given.1))
-    (λ c l e g. rw (← c.before.before.state-in.ensures l e, c.enum-told2.given.1))
-    (λ c l e g. rw (← c.before.before.state-in.ensures l e, c.enum-told3.given.1))
-    (λ c l e g. rw (← c.before.before.state-in.ensures l e, c.enum-told4.given.1))
+    (λ c l e g. rw (← c.before.before.state_in-state.ensures l e, c.in-ErrorReset.is))
+    (λ c l e g. rw (← c.before.before.state_in-state.ensures l e, c.in-ErrorWait.is))
+    (λ c l e g. rw (← c.before.before.state_in-state.ensures l e, c.in-Ready.is))
+    (λ c l e g. rw (← c.before.before.state_in-state.ensures l e, c.in-Started.is))
     (λ c l e g.
     rw (
-      c.fct-or-null.ensures,
-      c.before.grants-fct.ensures l e g,
-      ← c.before.before.before.before.state-in.ensures l e,
-      c.before.before.enum-told5.given.1,
+      c.fct_or_null.ensures,
+      c.before.grants_fct.ensures l e g,
+      ← c.before.before.before.before.state_in-state.ensures l e,
+      c.in-Connecting.is,
     ))
     (λ c l e g.
-    rw (c.choose-with.ensures l e g, ← c.before.before.before.state-in.ensures l e, c.before.enum-told6.given.1)))
+    rw (c.choose_with.ensures l e g, ← c.before.before.before.state_in-state.ensures l e, c.in-Run.is)))

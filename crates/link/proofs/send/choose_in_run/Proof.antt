@@ -9,19 +9,19 @@ choose_in_run_spec =
     tie.close
     (tie.spec
     (λ c κs. search rules)
-    (λ c l e g. rw (← c.before.grants-fct.ensures l e g, c.if1.true))
+    (λ c l e g. rw (← c.before.grants_fct.ensures l e g, c.if-grants_fct.true))
     (λ c κs. search rules)
     (λ c κs. search rules)
     (λ c κs. search rules)
     (λ c l e g.
     rw (
       c.look.ensures,
-      c.before.tx-in.ensures.0 l e,
-      ← c.before.before.before.before.before.grants-fct.ensures l e g,
-      c.before.before.before.before.if1.false,
-      ← c.before.before.before.has-n-char.ensures l e g,
-      c.before.before.if2.true,
+      c.before.tx_in.ensures.0 l e,
+      ← c.before.before.before.before.before.grants_fct.ensures l e g,
+      c.before.before.before.before.if-grants_fct.false,
+      ← c.before.before.before.has_n_char.ensures l e g,
+      c.before.before.if-has_n_char.true,
     ))
     (λ c l e g.
     let b = c.before.before in
-    rw (← b.before.grants-fct.ensures l e g, b.if1.false, ← c.before.has-n-char.ensures l e g, c.if2.false)))
+    rw (← b.before.grants_fct.ensures l e g, b.if-grants_fct.false, ← c.before.has_n_char.ensures l e g, c.if-has_n_char.false)))

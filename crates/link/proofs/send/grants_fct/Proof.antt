@@ -14,8 +14,8 @@ grants_fct_spec =
     (λ c κs. search rules)
     (λ c l e g.
     rw (
-      c.may-grant.ensures,
-      c.before.before.given-in.ensures l e g,
+      c.may_grant.ensures,
+      c.before.before.given_in.ensures l e g,
       c.before.free_places.ensures,
-      c.before.before.before.rx-in.ensures.0 l e,
+      c.before.before.before.rx_in-store.ensures.0 l e,
     )))
