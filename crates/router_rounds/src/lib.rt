@@ -1,5 +1,6 @@
 // Rounds of the router (01, The router): three parts, each in port order, and a run of them, on the words that keep it.
 #![tactic(auto)]
+
 ghost use Rattle.std.specs.Prelude.{◌≡◌, ◌<◌, ◌^◌};
 ghost use Rattle.router_rounds.specs.Addresses.{part1};
 ghost use Rattle.router_rounds.specs.Grants.{part2};

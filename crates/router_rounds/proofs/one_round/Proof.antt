@@ -23,32 +23,26 @@ unfolding round
 one_round_spec =
     tie.close
     (tie.spec
-    (λ c κs. omega (arith, c.before.requires))
+    (λ c κs. omega (arith, c.requires))
     (λ c κs.
-    let start = c.before.before.before.before in
-    let a = start.args in
+    let a = c.args in
     let w = kept a.state.now a.area.now in
-    omega (arith, start.requires, ap errors (c.before.before.count-round.ensures w), round_keeps_errors (tally a.c w)))
+    omega (arith, c.requires, ap errors (c.count_round-begun.ensures w), round_keeps_errors (tally a.c w)))
     (λ c κs.
-    let granted = c.before.before in
-    let begun = granted.before.before.before in
-    let start = begun.before.before in
-    let a = start.args in
+    let a = c.args in
     let w = kept a.state.now a.area.now in
-    let t : Tally Words = tally begun.count-round.result w in
+    let t : Tally Words = tally c.count_round-begun.result w in
     omega (
       arith,
-      start.requires,
-      ap moved (begun.count-round.ensures w),
+      c.requires,
+      ap moved (c.count_round-begun.ensures w),
       round_keeps_moved (tally a.c w),
-      ap moved granted.read-and-grant.ensures,
+      ap moved c.read_and_grant-granted.ensures,
       (part1_adds in_words a.table.now t).moved,
       (part2_adds in_words a.table.now (part1 in_words a.table.now t)).moved,
     ))
     (λ c. search rules)
     (λ c.
-    let granted = c.before.before.before.before.before in
-    let begun = granted.before.before.before in
-    let a = begun.before.before.args in
-    c.before.before.send-all.ensures
-    ∙ rw (granted.read-and-grant.ensures, begun.count-round.ensures (kept a.state.now a.area.now))))
+    let a = c.args in
+    c.send_all.ensures
+    ∙ rw (c.read_and_grant-granted.ensures, c.count_round-begun.ensures (kept a.state.now a.area.now))))

@@ -16,12 +16,11 @@ read_and_grant_spec =
     (λ c κs. search rules)
     (λ c κs. search rules)
     (λ c.
-    let tested = c.before.before.before.before in
-    let area = tested.before.before.before.before.args.area.now in
-    c.grant-all.ensures area ∙ ap (part2 in_words) c.before.before.read_all.ensures)
+    let area = c.args.area.now in
+    c.grant_all.ensures area ∙ ap (part2 in_words) c.read_all-read.ensures)
     (λ c.
-    let a = c.before.before.before.before.args in
+    let a = c.args in
     let t = tally a.c (kept a.state.now a.area.now) in
-    let none = sym c.before.some-stir.ensures ∙ c.if1.false in
+    let none = sym c.some_stir.ensures ∙ c.if-some_stir.false in
     sym (ap (part2 in_words) (reads_still in_words t (none_stirs a.state.now none) a.table.now)
     ∙ grants_still in_words t (none_waits a.state.now none))))

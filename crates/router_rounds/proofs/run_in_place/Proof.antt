@@ -33,60 +33,54 @@ begins : (w : Words) → (counted (begun w) ≡ 0) × (moved (begun w) ≡ 0) ×
 unfolding begun
 begins w = (refl, refl, refl)
 
-abbrev invariant-loop : tie.invariant-loop
-invariant-loop state₀ area₀ table limit q₀ left₀ state area q left =
+abbrev invariant-loop-left : tie.invariant-loop-left
+invariant-loop-left state₀ area₀ table limit q₀ left₀ state area q left =
     (q.rounds + left ≤ limit)
     × (q.moved + 33 * left ≤ 33 * limit)
     × (q.errors + 33 * left ≤ 33 * limit)
     × (length area ≡ length area₀)
     × (runs in_words table limit (tally q₀ (kept state₀ area₀)) ≡ runs in_words table left (tally q (kept state area)))
 
-abbrev decreases-loop : tie.decreases-loop
-decreases-loop state₀ area₀ table limit q₀ left₀ state area q left = left
+abbrev decreases-loop-left : tie.decreases-loop-left
+decreases-loop-left state₀ area₀ table limit q₀ left₀ state area q left = left
 
-starts : tie.Need-loop-init invariant-loop decreases-loop
+starts : tie.Need-loop-left-init invariant-loop-left decreases-loop-left
 starts c =
-    let a = c.before.before.args in
+    let a = c.args in
     let w = kept a.state.now a.area.now in
     let zero = begins w in
-    let e = c.begin.ensures w in
+    let e = c.begin-q.ensures w in
     (omega (arith, ap counted e, zero), omega (arith, ap moved e, zero), omega (arith, ap errors e, zero), refl, refl)
 
-goes_on : tie.Need-loop-preserved invariant-loop decreases-loop
+goes_on : tie.Need-loop-left-preserved invariant-loop-left decreases-loop-left
 goes_on c =
-    let one = c.before.before.before in
-    let test = one.before.before.before in
-    let l = test.before.loop in
-    let a = test.before.before.before.before.args in
+    let l = c.loop-left in
+    let a = c.args in
     let t : Tally Words = tally l.q (kept l.state l.area) in
-    let e = one.one_round.ensures in
+    let e = c.one_round-q.ensures in
     let adds = round_adds in_words a.table.now t in (
       omega (arith, ap counted e, adds.rounds, round_counts_one t),
       omega (arith, ap moved e, adds.moved, round_keeps_moved t),
       omega (arith, ap errors e, adds.errors, round_keeps_errors t),
-      one.one_round.auto.1.1.0 ∙ l.invariant.3,
+      c.one_round-q.auto.area ∙ l.invariant.3,
       l.invariant.4
-          ∙ runs_on in_words a.table.now l.left t test.loop-test.true (sym (ap changed e) ∙ c.if1.true)
+          ∙ runs_on in_words a.table.now l.left t c.loop-left-test.true (sym (ap changed e) ∙ c.if-q.true)
           ∙ ap (runs in_words a.table.now (l.left - 1)) (sym e),
     )
 
 -- the last round changed nothing
-stops_here : tie.Need-returns invariant-loop decreases-loop
+stops_here : tie.Need-returns-else-q invariant-loop-left decreases-loop-left
 stops_here c =
-    let one = c.before.before.before in
-    let test = one.before.before.before in
-    let l = test.before.loop in
-    let begun = test.before.before in
-    let start = begun.before.before in
-    let a = start.args in
+    let l = c.loop-left in
+    let a = c.args in
     let t : Tally Words = tally l.q (kept l.state l.area) in
-    let e = one.one_round.ensures in
+    let e = c.one_round-q.ensures in
     let adds = round_adds in_words a.table.now t in
-    let few : a.limit < 2 ^ 16 = omega (arith, start.ranges.limit) in (
+    let few : a.limit < 2 ^ 16 = omega (arith, c.ranges.limit) in (
       e
-          ∙ sym (ap (runs in_words a.table.now a.limit) (sym (begun.begin.ensures (kept a.state.now a.area.now)))
+          ∙ sym (ap (runs in_words a.table.now a.limit) (sym (c.begin-q.ensures (kept a.state.now a.area.now)))
           ∙ l.invariant.4
-          ∙ stops in_words a.table.now l.left t test.loop-test.true (sym (ap changed e) ∙ c.if1.false)),
+          ∙ stops in_words a.table.now l.left t c.loop-left-test.true (sym (ap changed e) ∙ c.if-q.false)),
       (
         omega (arith, ap counted e, adds.rounds, round_counts_one t, l.invariant.0, few),
         omega (arith, ap moved e, adds.moved, round_keeps_moved t, l.invariant.1, few),
@@ -98,27 +92,24 @@ pub run_in_place_spec : {M : Type 1} → statement M
 run_in_place_spec =
     tie.close
     (tie.spec
-    invariant-loop
-    decreases-loop
+    invariant-loop-left
+    decreases-loop-left
     (λ c κs. search rules)
     starts
-    (λ c κs. let l = c.before.before.before.loop in (omega (arith, l.invariant), omega (arith, l.invariant), omega (arith, l.invariant)))
+    (λ c κs. let l = c.loop-left in (omega (arith, l.invariant), omega (arith, l.invariant), omega (arith, l.invariant)))
     (λ c. omega arith)
     (λ c. omega arith)
     goes_on
     (λ c.
-    let one = c.before.before.before in
-    one.one_round.auto.1.1.0 ∙ one.before.before.before.before.loop.invariant.3)
+    c.one_round-q.auto.area ∙ c.loop-left.invariant.3)
     stops_here
-    (λ c. c.before.loop.invariant.3)
+    (λ c. c.loop-left.invariant.3)
     (λ c.
-    let l = c.before.loop in
-    let begun = c.before.before in
-    let start = begun.before.before in
-    let a = start.args in
-    let few : a.limit < 2 ^ 16 = omega (arith, start.ranges.limit) in (
-      sym (ap (runs in_words a.table.now a.limit) (sym (begun.begin.ensures (kept a.state.now a.area.now)))
+    let l = c.loop-left in
+    let a = c.args in
+    let few : a.limit < 2 ^ 16 = omega (arith, c.ranges.limit) in (
+      sym (ap (runs in_words a.table.now a.limit) (sym (c.begin-q.ensures (kept a.state.now a.area.now)))
           ∙ l.invariant.4
-          ∙ ends in_words a.table.now l.left (tally l.q (kept l.state l.area)) c.loop-test.false),
+          ∙ ends in_words a.table.now l.left (tally l.q (kept l.state l.area)) c.loop-left-test.false),
       (omega (arith, l.invariant.0, few), omega (arith, l.invariant.1, few), omega (arith, l.invariant.2, few)),
     )))

@@ -39,38 +39,37 @@ bit_spec =
     (λ c κs. search rules)
     (λ c κs. search rules)
     (λ c κs. search rules)
-    (λ c. let phase = c.before.before.before.before.before in
-    let words = phase.before.before.before.args.words.now in
+    (λ c.
+    let words = c.args.words.now in
     let keys = c.in-0.is in
-    bit_left_lem words _ (fresh_means words keys) _ _ _ phase.before.before.truth-b.ensures
-    (c.before.before.before.unused.ensures ∙ fresh_good words keys) refl (c.hunt.ensures 0 0 0))
-    (λ c. let places = c.before.before.before.before.before in
-    let phase = places.before.before in
-    let words = phase.before.before.before.args.words.now in
-    bit_left_lem words _ (hunting_means words c.in-1.is) _ _ _ phase.before.before.truth-b.ensures
-    c.before.before.before.hunting.ensures refl (rw places.byte-places.ensures at
+    bit_left_lem words _ (fresh_means words keys) _ _ _ c.truth-b.ensures
+    (c.unused.ensures ∙ fresh_good words keys) refl (c.hunt.ensures 0 0 0))
+    (λ c.
+    let words = c.args.words.now in
+    bit_left_lem words _ (hunting_means words c.in-1.is) _ _ _ c.truth-b.ensures
+    c.hunting.ensures refl (rw c.byte-places.ensures at
     (c.hunt-in-1.ensures 1 (byte (word_at words 1)) (byte (word_at words 6)))))
-    (λ c. let phase = c.before.before.before.before.before in
-    let words = phase.before.before.before.args.words.now in
-    bit_left_lem words _ (between_means words c.in-2.is) _ _ _ phase.before.before.truth-b.ensures
-    c.before.before.before.between.ensures refl (c.keep_bit.ensures _ _ _ _ _ _ _ _ refl))
-    (λ c. let phase = c.before.before.before.before.before in
-    let words = phase.before.before.before.args.words.now in
-    bit_left_lem words _ (parity_means words c.in-3.is) _ _ _ phase.before.before.truth-b.ensures
-    c.before.before.before.parity.ensures refl (c.flag_bit.ensures _ _ _ (waiting_fits _ _)))
-    (λ c. let phase = c.before.before.before.before.before in
-    let words = phase.before.before.before.args.words.now in
-    bit_left_lem words _ (data_means words c.in-4.is) _ _ _ phase.before.before.truth-b.ensures
-    c.before.before.before.«data».ensures refl (c.data_bit.ensures _ _ _))
-    (λ c. let phase = c.before.before.before.before.before in
-    let words = phase.before.before.before.args.words.now in
-    bit_left_lem words _ (control_means words c.in-5.is) _ _ _ phase.before.before.truth-b.ensures
-    c.before.before.before.control.ensures refl (c.keep_bit-in-5.ensures _ _ _ _ _ _ _ _ refl))
-    (λ c. let phase = c.before.before.before.before.before in
-    let words = phase.before.before.before.args.words.now in
-    bit_left_lem words _ (second_means words c.in-6.is) _ _ _ phase.before.before.truth-b.ensures
-    c.before.before.before.second.ensures refl (c.second_bit.ensures (truth (word_at words 4))
+    (λ c.
+    let words = c.args.words.now in
+    bit_left_lem words _ (between_means words c.in-2.is) _ _ _ c.truth-b.ensures
+    c.between.ensures refl (c.keep_bit.ensures _ _ _ _ _ _ _ _ refl))
+    (λ c.
+    let words = c.args.words.now in
+    bit_left_lem words _ (parity_means words c.in-3.is) _ _ _ c.truth-b.ensures
+    c.parity.ensures refl (c.flag_bit.ensures _ _ _ (waiting_fits _ _)))
+    (λ c.
+    let words = c.args.words.now in
+    bit_left_lem words _ (data_means words c.in-4.is) _ _ _ c.truth-b.ensures
+    c.«data».ensures refl (c.data_bit.ensures _ _ _))
+    (λ c.
+    let words = c.args.words.now in
+    bit_left_lem words _ (control_means words c.in-5.is) _ _ _ c.truth-b.ensures
+    c.control.ensures refl (c.keep_bit-in-5.ensures _ _ _ _ _ _ _ _ refl))
+    (λ c.
+    let words = c.args.words.now in
+    bit_left_lem words _ (second_means words c.in-6.is) _ _ _ c.truth-b.ensures
+    c.second.ensures refl (c.second_bit.ensures (truth (word_at words 4))
     (truth (word_at words 5)) _))
-    (λ c. rw (c.stay.ensures.0, c.stay.ensures.1, c.before.before.unused-in-7.ensures)
+    (λ c. rw (c.stay.ensures.0, c.stay.ensures.1, c.unused-in-7.ensures)
     (bit_stopped _ c.in-7.is _))
     (λ c. rw (c.stay-in_default.ensures.0, c.stay-in_default.ensures.1) (bit_none _ c.in_default.in_default-own.rest _)))

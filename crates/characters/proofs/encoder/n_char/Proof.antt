@@ -29,13 +29,13 @@ n_char_spec =
     (ap encoded (eop_sent e.odd))))
     (λ c. λ e odd shape. c.sent-in-257.ensures ∙ sym (rw (c.in-257.is, odd)
     (ap encoded (eep_sent e.odd))))
-    (λ c. λ e odd shape. c.sent-in-0-to-255.ensures ∙ sym (rw (odd, c.before.before.odd_ones.ensures)
+    (λ c. λ e odd shape. c.sent-in-0-to-255.ensures ∙ sym (rw (odd, c.odd_ones.ensures)
     (ap encoded (data_sent e.odd _ (search rules)))))
-    (λ c. λ e odd shape. let tested = c.before.before in
+    (λ c. λ e odd shape.
     let others = c.in_default.in_default-own.rest in
     rw (
-      above_refused e tested.before.before.args.value (omega
-          (arith, tested.if-value-lt256.false, others.0.1, others.1)),
+      above_refused e c.args.value (omega
+          (arith, c.in_default.if-value-lt256-own.false, others.0.1, others.1)),
       shape,
       c.refused.ensures.0,
       c.refused.ensures.1,

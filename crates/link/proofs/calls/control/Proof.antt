@@ -23,80 +23,59 @@ control_spec =
     (λ c κs. search rules)
     (λ c. search rules)
     (λ c.
-    let n = c.before in
-    let a = n.before.before.before.before.before.before.args in
-    refused_as a.words.now a.rx.now a.tx.now (settles Quiet (with_link (end_of a.words.now a.rx.now a.tx.now) (with_controls (link_of a.words.now) (controls_of a.disabled a.start a.auto)))) 0 (rw (unlinked a.words.now n.no_link.ensures c.if-no_link.true)))
+    let a = c.args in
+    refused_as a.words.now a.rx.now a.tx.now (settles Quiet (with_link (end_of a.words.now a.rx.now a.tx.now) (with_controls (link_of a.words.now) (controls_of a.disabled a.start a.auto)))) 0 (rw (unlinked a.words.now c.no_link.ensures c.if-no_link.true)))
     (λ c κs. search rules)
     (λ c. search rules)
     (λ c.
-    let b = c.before in
-    let n = b.before.before.before in
-    let a = n.before.before.before.before.before.before.args in
+    let a = c.args in
     let l = link_of a.words.now in
-    let link = linked a.words.now n.no_link.ensures b.before.before.if-no_link.false in
+    let link = linked a.words.now c.no_link.ensures c.if-no_link.false in
     let own = own_words a.words.now link in
-    let record_said = sym (b.bad_record.ensures l own) ∙ c.if-bad_record.true in
+    let record_said = sym (c.bad_record.ensures l own) ∙ c.if-bad_record.true in
     refused_as a.words.now a.rx.now a.tx.now (settles Quiet (with_link (end_of a.words.now a.rx.now a.tx.now) (with_controls (link_of a.words.now) (controls_of a.disabled a.start a.auto)))) 0 (rw (link, record_said)))
     (λ c κs. search rules)
     (λ c. search rules)
     (λ c.
-    let z = c.before in
-    let b = z.before.before in
-    let n = b.before.before.before in
-    let a = n.before.before.before.before.before.before.args in
+    let a = c.args in
     let l = link_of a.words.now in
-    let link = linked a.words.now n.no_link.ensures b.before.before.if-no_link.false in
+    let link = linked a.words.now c.no_link.ensures c.if-no_link.false in
     let own = own_words a.words.now link in
-    let record_said = sym (b.bad_record.ensures l own) ∙ z.before.if-bad_record.false in
-    let sizes_said = sym z.bad_sizes.ensures ∙ c.if-bad_sizes.true in
+    let record_said = sym (c.bad_record.ensures l own) ∙ c.if-bad_record.false in
+    let sizes_said = sym c.bad_sizes.ensures ∙ c.if-bad_sizes.true in
     refused_as a.words.now a.rx.now a.tx.now (settles Quiet (with_link (end_of a.words.now a.rx.now a.tx.now) (with_controls (link_of a.words.now) (controls_of a.disabled a.start a.auto)))) 1 (rw (link, record_said, sizes_said)))
     (λ c κs. search rules)
     (λ c. search rules)
     (λ c.
-    let s = c.before in
-    let z = s.before.before.before in
-    let b = z.before.before in
-    let n = b.before.before.before in
-    let a = n.before.before.before.before.before.before.args in
+    let a = c.args in
     let l = link_of a.words.now in
-    let link = linked a.words.now n.no_link.ensures b.before.before.if-no_link.false in
+    let link = linked a.words.now c.no_link.ensures c.if-no_link.false in
     let own = own_words a.words.now link in
-    let record_said = sym (b.bad_record.ensures l own) ∙ z.before.if-bad_record.false in
-    let sizes_said = sym z.bad_sizes.ensures ∙ s.before.before.if-bad_sizes.false in
-    let stores_said = sym (s.bad_stores.ensures l own) ∙ c.if-bad_stores.true in
+    let record_said = sym (c.bad_record.ensures l own) ∙ c.if-bad_record.false in
+    let sizes_said = sym c.bad_sizes.ensures ∙ c.if-bad_sizes.false in
+    let stores_said = sym (c.bad_stores.ensures l own) ∙ c.if-bad_stores.true in
     refused_as a.words.now a.rx.now a.tx.now (settles Quiet (with_link (end_of a.words.now a.rx.now a.tx.now) (with_controls (link_of a.words.now) (controls_of a.disabled a.start a.auto)))) 0 (rw (link, record_said, sizes_said, stores_said)))
     (λ c κs. search rules)
     (λ c κs.
-    let k = c.before.before in
-    let s = k.before.before.before in
-    let z = s.before.before.before in
-    let b = z.before.before in
-    let n = b.before.before.before in
-    let a = n.before.before.before.before.before.before.args in
+    let a = c.args in
     let l = link_of a.words.now in
-    let link = linked a.words.now n.no_link.ensures b.before.before.if-no_link.false in
+    let link = linked a.words.now c.no_link.ensures c.if-no_link.false in
     let own = own_words a.words.now link in
-    let record_said = sym (b.bad_record.ensures l own) ∙ z.before.if-bad_record.false in
-    let sizes_said = sym z.bad_sizes.ensures ∙ s.before.before.if-bad_sizes.false in
-    let stores_said = sym (s.bad_stores.ensures l own) ∙ k.before.before.if-bad_stores.false in
+    let record_said = sym (c.bad_record.ensures l own) ∙ c.if-bad_record.false in
+    let sizes_said = sym c.bad_sizes.ensures ∙ c.if-bad_sizes.false in
+    let stores_said = sym (c.bad_stores.ensures l own) ∙ c.if-bad_stores.false in
     let passed = refused.both a.words.now (length a.rx.now) (length a.tx.now) (rw (link, record_said, sizes_said, stores_said)) in
-    state_small _ (with_controls l (controls_of a.disabled a.start a.auto)) (k.set_controls.ensures l own))
+    state_small _ (with_controls l (controls_of a.disabled a.start a.auto)) (c.set_controls.ensures l own))
     (λ c. search rules)
     (λ c.
-    let e = c.before.before.before in
-    let k = e.before.before.before in
-    let s = k.before.before.before in
-    let z = s.before.before.before in
-    let b = z.before.before in
-    let n = b.before.before.before in
-    let a = n.before.before.before.before.before.before.args in
+    let a = c.args in
     let l = link_of a.words.now in
-    let link = linked a.words.now n.no_link.ensures b.before.before.if-no_link.false in
+    let link = linked a.words.now c.no_link.ensures c.if-no_link.false in
     let own = own_words a.words.now link in
-    let record_said = sym (b.bad_record.ensures l own) ∙ z.before.if-bad_record.false in
-    let sizes_said = sym z.bad_sizes.ensures ∙ s.before.before.if-bad_sizes.false in
-    let stores_said = sym (s.bad_stores.ensures l own) ∙ k.before.before.if-bad_stores.false in
+    let record_said = sym (c.bad_record.ensures l own) ∙ c.if-bad_record.false in
+    let sizes_said = sym c.bad_sizes.ensures ∙ c.if-bad_sizes.false in
+    let stores_said = sym (c.bad_stores.ensures l own) ∙ c.if-bad_stores.false in
     let passed = refused.both a.words.now (length a.rx.now) (length a.tx.now) (rw (link, record_said, sizes_said, stores_said)) in
-    let left = e.settle-discarded.ensures passed.1 passed.2 (with_controls l (controls_of a.disabled a.start a.auto)) (k.set_controls.ensures l own) in
+    let left = c.settle-discarded.ensures passed.1 passed.2 (with_controls l (controls_of a.disabled a.start a.auto)) (c.set_controls.ensures l own) in
     rw (left.0, left.1, left.2)
     (sym (accepted_left a.words.now a.rx.now a.tx.now (settles Quiet (with_link (end_of a.words.now a.rx.now a.tx.now) (with_controls l (controls_of a.disabled a.start a.auto)))) link passed.0.passes))))

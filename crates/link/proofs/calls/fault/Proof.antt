@@ -23,103 +23,75 @@ fault_spec =
     (λ c κs. search rules)
     (λ c. search rules)
     (λ c.
-    let n = c.before in
-    let a = n.before.before.before.before.before.before.args in
-    fault_refused_as a.words.now a.rx.now a.tx.now a.kind 0 (rw (unlinked a.words.now n.no_link.ensures c.if-no_link.true)))
+    let a = c.args in
+    fault_refused_as a.words.now a.rx.now a.tx.now a.kind 0 (rw (unlinked a.words.now c.no_link.ensures c.if-no_link.true)))
     (λ c κs. search rules)
     (λ c. search rules)
     (λ c.
-    let b = c.before in
-    let n = b.before.before.before in
-    let a = n.before.before.before.before.before.before.args in
+    let a = c.args in
     let l = link_of a.words.now in
-    let link = linked a.words.now n.no_link.ensures b.before.before.if-no_link.false in
+    let link = linked a.words.now c.no_link.ensures c.if-no_link.false in
     let own = own_words a.words.now link in
-    let record_said = sym (b.bad_record.ensures l own) ∙ c.if-bad_record.true in
+    let record_said = sym (c.bad_record.ensures l own) ∙ c.if-bad_record.true in
     fault_refused_as a.words.now a.rx.now a.tx.now a.kind 0 (rw (link, record_said)))
     (λ c κs. search rules)
     (λ c. search rules)
     (λ c.
-    let z = c.before in
-    let b = z.before.before in
-    let n = b.before.before.before in
-    let a = n.before.before.before.before.before.before.args in
+    let a = c.args in
     let l = link_of a.words.now in
-    let link = linked a.words.now n.no_link.ensures b.before.before.if-no_link.false in
+    let link = linked a.words.now c.no_link.ensures c.if-no_link.false in
     let own = own_words a.words.now link in
-    let record_said = sym (b.bad_record.ensures l own) ∙ z.before.if-bad_record.false in
-    let sizes_said = sym z.bad_sizes.ensures ∙ c.if-bad_sizes.true in
+    let record_said = sym (c.bad_record.ensures l own) ∙ c.if-bad_record.false in
+    let sizes_said = sym c.bad_sizes.ensures ∙ c.if-bad_sizes.true in
     fault_refused_as a.words.now a.rx.now a.tx.now a.kind 1 (rw (link, record_said, sizes_said)))
     (λ c κs. search rules)
     (λ c. search rules)
     (λ c.
-    let s = c.before in
-    let z = s.before.before.before in
-    let b = z.before.before in
-    let n = b.before.before.before in
-    let a = n.before.before.before.before.before.before.args in
+    let a = c.args in
     let l = link_of a.words.now in
-    let link = linked a.words.now n.no_link.ensures b.before.before.if-no_link.false in
+    let link = linked a.words.now c.no_link.ensures c.if-no_link.false in
     let own = own_words a.words.now link in
-    let record_said = sym (b.bad_record.ensures l own) ∙ z.before.if-bad_record.false in
-    let sizes_said = sym z.bad_sizes.ensures ∙ s.before.before.if-bad_sizes.false in
-    let stores_said = sym (s.bad_stores.ensures l own) ∙ c.if-bad_stores.true in
+    let record_said = sym (c.bad_record.ensures l own) ∙ c.if-bad_record.false in
+    let sizes_said = sym c.bad_sizes.ensures ∙ c.if-bad_sizes.false in
+    let stores_said = sym (c.bad_stores.ensures l own) ∙ c.if-bad_stores.true in
     fault_refused_as a.words.now a.rx.now a.tx.now a.kind 0 (rw (link, record_said, sizes_said, stores_said)))
     (λ c κs. search rules)
     (λ c. search rules)
     (λ c.
-    let f = c.before in
-    let s = f.before.before in
-    let z = s.before.before.before in
-    let b = z.before.before in
-    let n = b.before.before.before in
-    let a = n.before.before.before.before.before.before.args in
+    let a = c.args in
     let l = link_of a.words.now in
-    let link = linked a.words.now n.no_link.ensures b.before.before.if-no_link.false in
+    let link = linked a.words.now c.no_link.ensures c.if-no_link.false in
     let own = own_words a.words.now link in
-    let record_said = sym (b.bad_record.ensures l own) ∙ z.before.if-bad_record.false in
-    let sizes_said = sym z.bad_sizes.ensures ∙ s.before.before.if-bad_sizes.false in
-    let stores_said = sym (s.bad_stores.ensures l own) ∙ f.before.if-bad_stores.false in
-    let fault_said = sym f.no_fault.ensures ∙ c.if-no_fault.true in
+    let record_said = sym (c.bad_record.ensures l own) ∙ c.if-bad_record.false in
+    let sizes_said = sym c.bad_sizes.ensures ∙ c.if-bad_sizes.false in
+    let stores_said = sym (c.bad_stores.ensures l own) ∙ c.if-bad_stores.false in
+    let fault_said = sym c.no_fault.ensures ∙ c.if-no_fault.true in
     fault_refused_as a.words.now a.rx.now a.tx.now a.kind 4 (rw (link, record_said, sizes_said, stores_said, fault_said)))
     (λ c κs. search rules)
     (λ c κs. search rules)
     (λ c κs.
-    let v = c.before.before in
-    let f = v.before.before.before.before in
-    let s = f.before.before in
-    let z = s.before.before.before in
-    let b = z.before.before in
-    let n = b.before.before.before in
-    let a = n.before.before.before.before.before.before.args in
+    let a = c.args in
     let l = link_of a.words.now in
-    let link = linked a.words.now n.no_link.ensures b.before.before.if-no_link.false in
+    let link = linked a.words.now c.no_link.ensures c.if-no_link.false in
     let own = own_words a.words.now link in
-    let record_said = sym (b.bad_record.ensures l own) ∙ z.before.if-bad_record.false in
-    let sizes_said = sym z.bad_sizes.ensures ∙ s.before.before.if-bad_sizes.false in
-    let stores_said = sym (s.bad_stores.ensures l own) ∙ f.before.if-bad_stores.false in
-    let fault_said = sym f.no_fault.ensures ∙ v.before.before.before.if-no_fault.false in
+    let record_said = sym (c.bad_record.ensures l own) ∙ c.if-bad_record.false in
+    let sizes_said = sym c.bad_sizes.ensures ∙ c.if-bad_sizes.false in
+    let stores_said = sym (c.bad_stores.ensures l own) ∙ c.if-bad_stores.false in
+    let fault_said = sym c.no_fault.ensures ∙ c.if-no_fault.false in
     let passed = refused.both a.words.now (length a.rx.now) (length a.tx.now) (rw (link, record_said, sizes_said, stores_said)) in
     passed.0.state)
     (λ c. search rules)
     (λ c.
-    let e = c.before.before.before in
-    let v = e.before.before.before in
-    let f = v.before.before.before.before in
-    let s = f.before.before in
-    let z = s.before.before.before in
-    let b = z.before.before in
-    let n = b.before.before.before in
-    let a = n.before.before.before.before.before.before.args in
+    let a = c.args in
     let l = link_of a.words.now in
-    let link = linked a.words.now n.no_link.ensures b.before.before.if-no_link.false in
+    let link = linked a.words.now c.no_link.ensures c.if-no_link.false in
     let own = own_words a.words.now link in
-    let record_said = sym (b.bad_record.ensures l own) ∙ z.before.if-bad_record.false in
-    let sizes_said = sym z.bad_sizes.ensures ∙ s.before.before.if-bad_sizes.false in
-    let stores_said = sym (s.bad_stores.ensures l own) ∙ f.before.if-bad_stores.false in
-    let fault_said = sym f.no_fault.ensures ∙ v.before.before.before.if-no_fault.false in
+    let record_said = sym (c.bad_record.ensures l own) ∙ c.if-bad_record.false in
+    let sizes_said = sym c.bad_sizes.ensures ∙ c.if-bad_sizes.false in
+    let stores_said = sym (c.bad_stores.ensures l own) ∙ c.if-bad_stores.false in
+    let fault_said = sym c.no_fault.ensures ∙ c.if-no_fault.false in
     let passed = refused.both a.words.now (length a.rx.now) (length a.tx.now) (rw (link, record_said, sizes_said, stores_said)) in
-    let event = v.fault_event-event.ensures l own ∙ ap (fault_event l) v.before.fault_of.ensures in
-    let left = e.settle-discarded.ensures passed.1 passed.2 l own in
+    let event = c.fault_event-event.ensures l own ∙ ap (fault_event l) c.fault_of.ensures in
+    let left = c.settle-discarded.ensures passed.1 passed.2 l own in
     rw (left.0, left.1, left.2, named a.kind fault_said (end_of a.words.now a.rx.now a.tx.now), event)
     (sym (accepted_left a.words.now a.rx.now a.tx.now (settles (fault_event l (fault_of a.kind)) (end_of a.words.now a.rx.now a.tx.now)) link passed.0.passes))))

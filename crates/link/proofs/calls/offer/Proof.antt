@@ -18,43 +18,34 @@ offer_spec =
     (λ c κs. search rules)
     (λ c. search rules)
     (λ c.
-    let n = c.before in
-    let a = n.before.before.before.before.args in
-    offer_refused_as a.words.now a.code 0 (rw (unlinked a.words.now n.no_link.ensures c.if-no_link.true)))
+    let a = c.args in
+    offer_refused_as a.words.now a.code 0 (rw (unlinked a.words.now c.no_link.ensures c.if-no_link.true)))
     (λ c κs. search rules)
     (λ c. search rules)
     (λ c.
-    let b = c.before in
-    let n = b.before.before.before in
-    let a = n.before.before.before.before.args in
+    let a = c.args in
     let l = link_of a.words.now in
-    let link = linked a.words.now n.no_link.ensures b.before.before.if-no_link.false in
+    let link = linked a.words.now c.no_link.ensures c.if-no_link.false in
     let own = own_words a.words.now link in
-    let record_said = sym (b.bad_record.ensures l own) ∙ c.if-bad_record.true in
+    let record_said = sym (c.bad_record.ensures l own) ∙ c.if-bad_record.true in
     offer_refused_as a.words.now a.code 0 (rw (link, record_said)))
     (λ c κs. search rules)
     (λ c. search rules)
     (λ c.
-    let z = c.before in
-    let b = z.before.before.before in
-    let n = b.before.before.before in
-    let a = n.before.before.before.before.args in
+    let a = c.args in
     let l = link_of a.words.now in
-    let link = linked a.words.now n.no_link.ensures b.before.before.if-no_link.false in
+    let link = linked a.words.now c.no_link.ensures c.if-no_link.false in
     let own = own_words a.words.now link in
-    let record_said = sym (b.bad_record.ensures l own) ∙ z.before.before.if-bad_record.false in
-    let run_said = ap not (sym (z.is_in.ensures l own)) ∙ c.if-not-is_in.true in
+    let record_said = sym (c.bad_record.ensures l own) ∙ c.if-bad_record.false in
+    let run_said = ap not (sym (c.is_in.ensures l own) ∙ c.if-not-is_in.true) in
     offer_refused_as a.words.now a.code 7 (rw (link, record_said, run_said)))
     (λ c κs. search rules)
     (λ c.
-    let z = c.before.before.before in
-    let b = z.before.before.before in
-    let n = b.before.before.before in
-    let a = n.before.before.before.before.args in
+    let a = c.args in
     let l = link_of a.words.now in
-    let link = linked a.words.now n.no_link.ensures b.before.before.if-no_link.false in
+    let link = linked a.words.now c.no_link.ensures c.if-no_link.false in
     let own = own_words a.words.now link in
-    let record_said = sym (b.bad_record.ensures l own) ∙ z.before.before.if-bad_record.false in
-    let run_said = ap not (sym (z.is_in.ensures l own)) ∙ c.before.before.if-not-is_in.false in
+    let record_said = sym (c.bad_record.ensures l own) ∙ c.if-bad_record.false in
+    let run_said = ap not (sym (c.is_in.ensures l own) ∙ c.if-not-is_in.false) in
     let passed = refused.offer a.words.now (rw (link, record_said, run_said)) in
     rw (c.offer_code.ensures l own) (sym (offer_accepted_lem a.words.now a.code link passed.passes))))

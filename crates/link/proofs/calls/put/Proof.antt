@@ -21,105 +21,77 @@ put_spec =
     (λ c κs. search rules)
     (λ c. search rules)
     (λ c.
-    let n = c.before in
-    let a = n.before.before.before.before.before.before.args in
-    put_refused_as a.words.now a.tx.now a.nchar 0 (rw (unlinked a.words.now n.no_link.ensures c.if-no_link.true)))
+    let a = c.args in
+    put_refused_as a.words.now a.tx.now a.nchar 0 (rw (unlinked a.words.now c.no_link.ensures c.if-no_link.true)))
     (λ c κs. search rules)
     (λ c. search rules)
     (λ c.
-    let b = c.before in
-    let n = b.before.before.before in
-    let a = n.before.before.before.before.before.before.args in
+    let a = c.args in
     let l = link_of a.words.now in
-    let link = linked a.words.now n.no_link.ensures b.before.before.if-no_link.false in
+    let link = linked a.words.now c.no_link.ensures c.if-no_link.false in
     let own = own_words a.words.now link in
-    let record_said = sym (b.bad_record.ensures l own) ∙ c.if-bad_record.true in
+    let record_said = sym (c.bad_record.ensures l own) ∙ c.if-bad_record.true in
     put_refused_as a.words.now a.tx.now a.nchar 0 (rw (link, record_said)))
     (λ c κs. search rules)
     (λ c. search rules)
     (λ c.
-    let z = c.before in
-    let b = z.before.before in
-    let n = b.before.before.before in
-    let a = n.before.before.before.before.before.before.args in
+    let a = c.args in
     let l = link_of a.words.now in
-    let link = linked a.words.now n.no_link.ensures b.before.before.if-no_link.false in
+    let link = linked a.words.now c.no_link.ensures c.if-no_link.false in
     let own = own_words a.words.now link in
-    let record_said = sym (b.bad_record.ensures l own) ∙ z.before.if-bad_record.false in
-    let size_said = sym z.bad_tx_size.ensures ∙ c.if-bad_tx_size.true in
+    let record_said = sym (c.bad_record.ensures l own) ∙ c.if-bad_record.false in
+    let size_said = sym c.bad_tx_size.ensures ∙ c.if-bad_tx_size.true in
     put_refused_as a.words.now a.tx.now a.nchar 1 (rw (link, record_said, size_said)))
     (λ c κs. search rules)
     (λ c. search rules)
     (λ c.
-    let s = c.before in
-    let z = s.before.before.before in
-    let b = z.before.before in
-    let n = b.before.before.before in
-    let a = n.before.before.before.before.before.before.args in
+    let a = c.args in
     let l = link_of a.words.now in
-    let link = linked a.words.now n.no_link.ensures b.before.before.if-no_link.false in
+    let link = linked a.words.now c.no_link.ensures c.if-no_link.false in
     let own = own_words a.words.now link in
-    let record_said = sym (b.bad_record.ensures l own) ∙ z.before.if-bad_record.false in
-    let size_said = sym z.bad_tx_size.ensures ∙ s.before.before.if-bad_tx_size.false in
-    let Store_said = sym (s.bad_transmit.ensures l own) ∙ c.if-bad_transmit.true in
+    let record_said = sym (c.bad_record.ensures l own) ∙ c.if-bad_record.false in
+    let size_said = sym c.bad_tx_size.ensures ∙ c.if-bad_tx_size.false in
+    let Store_said = sym (c.bad_transmit.ensures l own) ∙ c.if-bad_transmit.true in
     put_refused_as a.words.now a.tx.now a.nchar 0 (rw (link, record_said, size_said, Store_said)))
     (λ c κs. search rules)
     (λ c. search rules)
     (λ c.
-    let h = c.before in
-    let s = h.before.before in
-    let z = s.before.before.before in
-    let b = z.before.before in
-    let n = b.before.before.before in
-    let a = n.before.before.before.before.before.before.args in
+    let a = c.args in
     let l = link_of a.words.now in
-    let link = linked a.words.now n.no_link.ensures b.before.before.if-no_link.false in
+    let link = linked a.words.now c.no_link.ensures c.if-no_link.false in
     let own = own_words a.words.now link in
-    let record_said = sym (b.bad_record.ensures l own) ∙ z.before.if-bad_record.false in
-    let size_said = sym z.bad_tx_size.ensures ∙ s.before.before.if-bad_tx_size.false in
-    let Store_said = sym (s.bad_transmit.ensures l own) ∙ h.before.if-bad_transmit.false in
-    let char_said = ap above_eep (sym n.before.before.before.fitted-n.ensures) ∙ sym h.above_eep.ensures ∙ c.if-above_eep.true in
+    let record_said = sym (c.bad_record.ensures l own) ∙ c.if-bad_record.false in
+    let size_said = sym c.bad_tx_size.ensures ∙ c.if-bad_tx_size.false in
+    let Store_said = sym (c.bad_transmit.ensures l own) ∙ c.if-bad_transmit.false in
+    let char_said = ap above_eep (sym c.fitted-n.ensures) ∙ sym c.above_eep.ensures ∙ c.if-above_eep.true in
     put_refused_as a.words.now a.tx.now a.nchar 4 (rw (link, record_said, size_said, Store_said, char_said)))
     (λ c κs. search rules)
     (λ c. search rules)
     (λ c.
-    let i = c.before in
-    let h = i.before.before.before in
-    let s = h.before.before in
-    let z = s.before.before.before in
-    let b = z.before.before in
-    let n = b.before.before.before in
-    let a = n.before.before.before.before.before.before.args in
+    let a = c.args in
     let l = link_of a.words.now in
-    let link = linked a.words.now n.no_link.ensures b.before.before.if-no_link.false in
+    let link = linked a.words.now c.no_link.ensures c.if-no_link.false in
     let own = own_words a.words.now link in
-    let record_said = sym (b.bad_record.ensures l own) ∙ z.before.if-bad_record.false in
-    let size_said = sym z.bad_tx_size.ensures ∙ s.before.before.if-bad_tx_size.false in
-    let Store_said = sym (s.bad_transmit.ensures l own) ∙ h.before.if-bad_transmit.false in
-    let char_said = ap above_eep (sym n.before.before.before.fitted-n.ensures) ∙ sym h.above_eep.ensures ∙ i.before.before.if-above_eep.false in
-    let place_said = sym (i.no_place.ensures l own) ∙ c.if-no_place.true in
+    let record_said = sym (c.bad_record.ensures l own) ∙ c.if-bad_record.false in
+    let size_said = sym c.bad_tx_size.ensures ∙ c.if-bad_tx_size.false in
+    let Store_said = sym (c.bad_transmit.ensures l own) ∙ c.if-bad_transmit.false in
+    let char_said = ap above_eep (sym c.fitted-n.ensures) ∙ sym c.above_eep.ensures ∙ c.if-above_eep.false in
+    let place_said = sym (c.no_place.ensures l own) ∙ c.if-no_place.true in
     put_refused_as a.words.now a.tx.now a.nchar 9 (rw (link, record_said, size_said, Store_said, char_said, place_said)))
     (λ c κs. search rules)
     (λ c. search rules)
     (λ c.
-    let e = c.before.before.before in
-    let i = e.before.before.before.before in
-    let h = i.before.before.before in
-    let s = h.before.before in
-    let z = s.before.before.before in
-    let b = z.before.before in
-    let n = b.before.before.before in
-    let a = n.before.before.before.before.before.before.args in
+    let a = c.args in
     let l = link_of a.words.now in
-    let link = linked a.words.now n.no_link.ensures b.before.before.if-no_link.false in
+    let link = linked a.words.now c.no_link.ensures c.if-no_link.false in
     let own = own_words a.words.now link in
-    let record_said = sym (b.bad_record.ensures l own) ∙ z.before.if-bad_record.false in
-    let size_said = sym z.bad_tx_size.ensures ∙ s.before.before.if-bad_tx_size.false in
-    let Store_said = sym (s.bad_transmit.ensures l own) ∙ h.before.if-bad_transmit.false in
-    let char_said = ap above_eep (sym n.before.before.before.fitted-n.ensures) ∙ sym h.above_eep.ensures ∙ i.before.before.if-above_eep.false in
-    let place_said = sym (i.no_place.ensures l own) ∙ e.before.before.before.if-no_place.false in
+    let record_said = sym (c.bad_record.ensures l own) ∙ c.if-bad_record.false in
+    let size_said = sym c.bad_tx_size.ensures ∙ c.if-bad_tx_size.false in
+    let Store_said = sym (c.bad_transmit.ensures l own) ∙ c.if-bad_transmit.false in
+    let char_said = ap above_eep (sym c.fitted-n.ensures) ∙ sym c.above_eep.ensures ∙ c.if-above_eep.false in
+    let place_said = sym (c.no_place.ensures l own) ∙ c.if-no_place.false in
     let passed = refused.put a.words.now (length a.tx.now) (fitted a.nchar)
     (rw (link, record_said, size_said, Store_said, char_said, place_said)) in
-    let left = rw n.before.before.before.fitted-n.ensures at e.put_one-discarded.ensures in
+    let left = rw c.fitted-n.ensures at c.put_one-discarded.ensures in
     rw (left.0 passed.1 l own, left.1 l own, left.2 l own)
     (sym (put_accepted a.words.now a.tx.now a.nchar link passed.0.passes))))

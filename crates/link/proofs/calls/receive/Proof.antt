@@ -26,66 +26,51 @@ receive_spec =
     (λ c κs. search rules)
     (λ c. search rules)
     (λ c.
-    let n = c.before in
-    let a = n.before.before.before.before.before.before.args in
-    receive_refused_as a.words.now a.rx.now a.tx.now a.time.now a.kind a.value 0 (rw (unlinked a.words.now n.no_link.ensures c.if-no_link.true)))
+    let a = c.args in
+    receive_refused_as a.words.now a.rx.now a.tx.now a.time.now a.kind a.value 0 (rw (unlinked a.words.now c.no_link.ensures c.if-no_link.true)))
     (λ c κs. search rules)
     (λ c. search rules)
     (λ c.
-    let b = c.before in
-    let n = b.before.before.before in
-    let a = n.before.before.before.before.before.before.args in
+    let a = c.args in
     let l = link_of a.words.now in
-    let link = linked a.words.now n.no_link.ensures b.before.before.if-no_link.false in
+    let link = linked a.words.now c.no_link.ensures c.if-no_link.false in
     let own = own_words a.words.now link in
-    let record_said = sym (b.bad_record.ensures l own) ∙ c.if-bad_record.true in
+    let record_said = sym (c.bad_record.ensures l own) ∙ c.if-bad_record.true in
     receive_refused_as a.words.now a.rx.now a.tx.now a.time.now a.kind a.value 0 (early_record a.words.now (length a.rx.now) (length a.tx.now) a.time.now (token_of a.kind a.value) link record_said))
     (λ c κs. search rules)
     (λ c. search rules)
     (λ c.
-    let k = c.before in
-    let b = k.before.before.before.before in
-    let n = b.before.before.before in
-    let a = n.before.before.before.before.before.before.args in
+    let a = c.args in
     let l = link_of a.words.now in
-    let link = linked a.words.now n.no_link.ensures b.before.before.if-no_link.false in
+    let link = linked a.words.now c.no_link.ensures c.if-no_link.false in
     let own = own_words a.words.now link in
-    let record_said = sym (b.bad_record.ensures l own) ∙ k.before.before.before.if-bad_record.false in
-    let time_said = sym k.bad_time.ensures ∙ c.if-bad_time.true in
+    let record_said = sym (c.bad_record.ensures l own) ∙ c.if-bad_record.false in
+    let time_said = sym c.bad_time.ensures ∙ c.if-bad_time.true in
     receive_refused_as a.words.now a.rx.now a.tx.now a.time.now a.kind a.value 0 (late a.words.now (length a.rx.now) (length a.tx.now) a.time.now (token_of a.kind a.value) link record_said time_said))
     (λ c κs. search rules)
     (λ c. search rules)
     (λ c.
-    let z = c.before in
-    let k = z.before.before in
-    let b = k.before.before.before.before in
-    let n = b.before.before.before in
-    let a = n.before.before.before.before.before.before.args in
+    let a = c.args in
     let l = link_of a.words.now in
-    let link = linked a.words.now n.no_link.ensures b.before.before.if-no_link.false in
+    let link = linked a.words.now c.no_link.ensures c.if-no_link.false in
     let own = own_words a.words.now link in
-    let record_said = sym (b.bad_record.ensures l own) ∙ k.before.before.before.if-bad_record.false in
-    let time_said = sym k.bad_time.ensures ∙ z.before.if-bad_time.false in
-    let sizes_said = sym z.bad_sizes.ensures ∙ c.if-bad_sizes.true in
+    let record_said = sym (c.bad_record.ensures l own) ∙ c.if-bad_record.false in
+    let time_said = sym c.bad_time.ensures ∙ c.if-bad_time.false in
+    let sizes_said = sym c.bad_sizes.ensures ∙ c.if-bad_sizes.true in
     let clock = is_so (is_time a.time.now) (or_left (not (is_time a.time.now)) (bad_time (time_of a.time.now)) time_said) in
     let early = or_right (not (is_time a.time.now)) (bad_time (time_of a.time.now)) time_said in
     receive_refused_as a.words.now a.rx.now a.tx.now a.time.now a.kind a.value 1 (rw (link, clock, record_said, early, sizes_said)))
     (λ c κs. search rules)
     (λ c. search rules)
     (λ c.
-    let s = c.before in
-    let z = s.before.before.before in
-    let k = z.before.before in
-    let b = k.before.before.before.before in
-    let n = b.before.before.before in
-    let a = n.before.before.before.before.before.before.args in
+    let a = c.args in
     let l = link_of a.words.now in
-    let link = linked a.words.now n.no_link.ensures b.before.before.if-no_link.false in
+    let link = linked a.words.now c.no_link.ensures c.if-no_link.false in
     let own = own_words a.words.now link in
-    let record_said = sym (b.bad_record.ensures l own) ∙ k.before.before.before.if-bad_record.false in
-    let time_said = sym k.bad_time.ensures ∙ z.before.if-bad_time.false in
-    let sizes_said = sym z.bad_sizes.ensures ∙ s.before.before.if-bad_sizes.false in
-    let stores_said = sym (s.bad_stores.ensures l own) ∙ c.if-bad_stores.true in
+    let record_said = sym (c.bad_record.ensures l own) ∙ c.if-bad_record.false in
+    let time_said = sym c.bad_time.ensures ∙ c.if-bad_time.false in
+    let sizes_said = sym c.bad_sizes.ensures ∙ c.if-bad_sizes.false in
+    let stores_said = sym (c.bad_stores.ensures l own) ∙ c.if-bad_stores.true in
     let clock = is_so (is_time a.time.now) (or_left (not (is_time a.time.now)) (bad_time (time_of a.time.now)) time_said) in
     let early = or_right (not (is_time a.time.now)) (bad_time (time_of a.time.now)) time_said in
     receive_refused_as a.words.now a.rx.now a.tx.now a.time.now a.kind a.value 0 (rw (link, clock, record_said, early, sizes_said, stores_said)))
@@ -93,21 +78,15 @@ receive_spec =
     (λ c κs. search rules)
     (λ c. search rules)
     (λ c.
-    let h = c.before in
-    let s = h.before.before.before in
-    let z = s.before.before.before in
-    let k = z.before.before in
-    let b = k.before.before.before.before in
-    let n = b.before.before.before in
-    let a = n.before.before.before.before.before.before.args in
+    let a = c.args in
     let l = link_of a.words.now in
-    let link = linked a.words.now n.no_link.ensures b.before.before.if-no_link.false in
+    let link = linked a.words.now c.no_link.ensures c.if-no_link.false in
     let own = own_words a.words.now link in
-    let record_said = sym (b.bad_record.ensures l own) ∙ k.before.before.before.if-bad_record.false in
-    let time_said = sym k.bad_time.ensures ∙ z.before.if-bad_time.false in
-    let sizes_said = sym z.bad_sizes.ensures ∙ s.before.before.if-bad_sizes.false in
-    let stores_said = sym (s.bad_stores.ensures l own) ∙ h.before.before.if-bad_stores.false in
-    let char_said = ap bad_char (sym h.before.token_of-token.ensures) ∙ sym h.bad_char.ensures ∙ c.if-bad_char.true in
+    let record_said = sym (c.bad_record.ensures l own) ∙ c.if-bad_record.false in
+    let time_said = sym c.bad_time.ensures ∙ c.if-bad_time.false in
+    let sizes_said = sym c.bad_sizes.ensures ∙ c.if-bad_sizes.false in
+    let stores_said = sym (c.bad_stores.ensures l own) ∙ c.if-bad_stores.false in
+    let char_said = ap bad_char (sym c.token_of-token.ensures) ∙ sym c.bad_char.ensures ∙ c.if-bad_char.true in
     let clock = is_so (is_time a.time.now) (or_left (not (is_time a.time.now)) (bad_time (time_of a.time.now)) time_said) in
     let early = or_right (not (is_time a.time.now)) (bad_time (time_of a.time.now)) time_said in
     receive_refused_as a.words.now a.rx.now a.tx.now a.time.now a.kind a.value 4 (rw (link, clock, record_said, early, sizes_said, stores_said, char_said)))
@@ -115,58 +94,42 @@ receive_spec =
     (λ c κs. search rules)
     (λ c κs. search rules)
     (λ c κs.
-    let i = c.before.before.before.before.before.before.before in
-    let h = i.before.before.before.before.before.before in
-    let s = h.before.before.before in
-    let z = s.before.before.before in
-    let k = z.before.before in
-    let b = k.before.before.before.before in
-    let n = b.before.before.before in
-    let a = n.before.before.before.before.before.before.args in
+    let a = c.args in
     let l = link_of a.words.now in
-    let link = linked a.words.now n.no_link.ensures b.before.before.if-no_link.false in
+    let link = linked a.words.now c.no_link.ensures c.if-no_link.false in
     let own = own_words a.words.now link in
-    let record_said = sym (b.bad_record.ensures l own) ∙ k.before.before.before.if-bad_record.false in
-    let time_said = sym k.bad_time.ensures ∙ z.before.if-bad_time.false in
-    let sizes_said = sym z.bad_sizes.ensures ∙ s.before.before.if-bad_sizes.false in
-    let stores_said = sym (s.bad_stores.ensures l own) ∙ h.before.before.if-bad_stores.false in
-    let char_said = ap bad_char (sym h.before.token_of-token.ensures) ∙ sym h.bad_char.ensures ∙ i.before.before.before.before.before.if-bad_char.false in
+    let record_said = sym (c.bad_record.ensures l own) ∙ c.if-bad_record.false in
+    let time_said = sym c.bad_time.ensures ∙ c.if-bad_time.false in
+    let sizes_said = sym c.bad_sizes.ensures ∙ c.if-bad_sizes.false in
+    let stores_said = sym (c.bad_stores.ensures l own) ∙ c.if-bad_stores.false in
+    let char_said = ap bad_char (sym c.token_of-token.ensures) ∙ sym c.bad_char.ensures ∙ c.if-bad_char.false in
     let clock = is_so (is_time a.time.now) (or_left (not (is_time a.time.now)) (bad_time (time_of a.time.now)) time_said) in
     let early = or_right (not (is_time a.time.now)) (bad_time (time_of a.time.now)) time_said in
     let passed = refused.receive a.words.now (length a.rx.now) (length a.tx.now) a.time.now (token_of a.kind a.value)
     (rw (link, clock, record_said, early, sizes_said, stores_said, char_said)) in
-    let heard = rw (i.before.time_in.ensures passed.4, h.before.token_of-token.ensures) at (i.token-heard.ensures passed.1 l own passed.0.good) in
+    let heard = rw (c.time_in.ensures passed.4, c.token_of-token.ensures) at (c.token-heard.ensures passed.1 l own passed.0.good) in
     let effect = token_effect (length a.rx.now) l (time_of a.time.now) (token_of a.kind a.value) in
     state_small _ effect.link heard.1)
     (λ c κs. search rules)
     (λ c. search rules)
     (λ c.
-    let e = c.before.before.before.before in
-    let w = e.before.before.before in
-    let i = w.before.before.before.before.before in
-    let h = i.before.before.before.before.before.before in
-    let s = h.before.before.before in
-    let z = s.before.before.before in
-    let k = z.before.before in
-    let b = k.before.before.before.before in
-    let n = b.before.before.before in
-    let a = n.before.before.before.before.before.before.args in
+    let a = c.args in
     let l = link_of a.words.now in
-    let link = linked a.words.now n.no_link.ensures b.before.before.if-no_link.false in
+    let link = linked a.words.now c.no_link.ensures c.if-no_link.false in
     let own = own_words a.words.now link in
-    let record_said = sym (b.bad_record.ensures l own) ∙ k.before.before.before.if-bad_record.false in
-    let time_said = sym k.bad_time.ensures ∙ z.before.if-bad_time.false in
-    let sizes_said = sym z.bad_sizes.ensures ∙ s.before.before.if-bad_sizes.false in
-    let stores_said = sym (s.bad_stores.ensures l own) ∙ h.before.before.if-bad_stores.false in
-    let char_said = ap bad_char (sym h.before.token_of-token.ensures) ∙ sym h.bad_char.ensures ∙ i.before.before.before.before.before.if-bad_char.false in
+    let record_said = sym (c.bad_record.ensures l own) ∙ c.if-bad_record.false in
+    let time_said = sym c.bad_time.ensures ∙ c.if-bad_time.false in
+    let sizes_said = sym c.bad_sizes.ensures ∙ c.if-bad_sizes.false in
+    let stores_said = sym (c.bad_stores.ensures l own) ∙ c.if-bad_stores.false in
+    let char_said = ap bad_char (sym c.token_of-token.ensures) ∙ sym c.bad_char.ensures ∙ c.if-bad_char.false in
     let clock = is_so (is_time a.time.now) (or_left (not (is_time a.time.now)) (bad_time (time_of a.time.now)) time_said) in
     let early = or_right (not (is_time a.time.now)) (bad_time (time_of a.time.now)) time_said in
     let passed = refused.receive a.words.now (length a.rx.now) (length a.tx.now) a.time.now (token_of a.kind a.value)
     (rw (link, clock, record_said, early, sizes_said, stores_said, char_said)) in
-    let heard = rw (i.before.time_in.ensures passed.4, h.before.token_of-token.ensures) at (i.token-heard.ensures passed.1 l own passed.0.good) in
+    let heard = rw (c.time_in.ensures passed.4, c.token_of-token.ensures) at (c.token-heard.ensures passed.1 l own passed.0.good) in
     let effect = token_effect (length a.rx.now) l (time_of a.time.now) (token_of a.kind a.value) in
-    let long : length i.token-heard.new.1.0 ≡ length a.rx.now = i.token-heard.auto.1.0 in
-    let left = e.settle-discarded.ensures (rw long passed.1) passed.2 effect.link heard.1 in
-    rw (left.0, left.1, left.2, w.set_time.ensures, c.before.truth_word-tick.ensures, heard.0, heard.2)
+    let long : length c.token-heard.new.1.0 ≡ length a.rx.now = c.token-heard.auto.1.0 in
+    let left = c.settle-discarded.ensures (rw long passed.1) passed.2 effect.link heard.1 in
+    rw (left.0, left.1, left.2, c.set_time.ensures, c.truth_word-tick.ensures, heard.0, heard.2)
     (sym (receive_accepted a.words.now a.rx.now a.tx.now a.time.now a.kind a.value link clock passed.0.passes effect refl
     (settles effect.event (record { link = effect.link; rx = token_places a.rx.now l (token_of a.kind a.value); tx = a.tx.now })) refl))))

@@ -21,91 +21,68 @@ send_spec =
     (λ c κs. search rules)
     (λ c. search rules)
     (λ c.
-    let n = c.before in
-    let a = n.before.before.before.before.before.before.args in
-    send_refused_as a.words.now a.rx.now a.tx.now 0 (rw (unlinked a.words.now n.no_link.ensures c.if-no_link.true)))
+    let a = c.args in
+    send_refused_as a.words.now a.rx.now a.tx.now 0 (rw (unlinked a.words.now c.no_link.ensures c.if-no_link.true)))
     (λ c κs. search rules)
     (λ c. search rules)
     (λ c.
-    let b = c.before in
-    let n = b.before.before.before in
-    let a = n.before.before.before.before.before.before.args in
+    let a = c.args in
     let l = link_of a.words.now in
-    let link = linked a.words.now n.no_link.ensures b.before.before.if-no_link.false in
+    let link = linked a.words.now c.no_link.ensures c.if-no_link.false in
     let own = own_words a.words.now link in
-    let record_said = sym (b.bad_record.ensures l own) ∙ c.if-bad_record.true in
+    let record_said = sym (c.bad_record.ensures l own) ∙ c.if-bad_record.true in
     send_refused_as a.words.now a.rx.now a.tx.now 0 (rw (link, record_said)))
     (λ c κs. search rules)
     (λ c. search rules)
     (λ c.
-    let z = c.before in
-    let b = z.before.before in
-    let n = b.before.before.before in
-    let a = n.before.before.before.before.before.before.args in
+    let a = c.args in
     let l = link_of a.words.now in
-    let link = linked a.words.now n.no_link.ensures b.before.before.if-no_link.false in
+    let link = linked a.words.now c.no_link.ensures c.if-no_link.false in
     let own = own_words a.words.now link in
-    let record_said = sym (b.bad_record.ensures l own) ∙ z.before.if-bad_record.false in
-    let sizes_said = sym z.bad_sizes.ensures ∙ c.if-bad_sizes.true in
+    let record_said = sym (c.bad_record.ensures l own) ∙ c.if-bad_record.false in
+    let sizes_said = sym c.bad_sizes.ensures ∙ c.if-bad_sizes.true in
     send_refused_as a.words.now a.rx.now a.tx.now 1 (rw (link, record_said, sizes_said)))
     (λ c κs. search rules)
     (λ c. search rules)
     (λ c.
-    let s = c.before in
-    let z = s.before.before.before in
-    let b = z.before.before in
-    let n = b.before.before.before in
-    let a = n.before.before.before.before.before.before.args in
+    let a = c.args in
     let l = link_of a.words.now in
-    let link = linked a.words.now n.no_link.ensures b.before.before.if-no_link.false in
+    let link = linked a.words.now c.no_link.ensures c.if-no_link.false in
     let own = own_words a.words.now link in
-    let record_said = sym (b.bad_record.ensures l own) ∙ z.before.if-bad_record.false in
-    let sizes_said = sym z.bad_sizes.ensures ∙ s.before.before.if-bad_sizes.false in
-    let stores_said = sym (s.bad_stores.ensures l own) ∙ c.if-bad_stores.true in
+    let record_said = sym (c.bad_record.ensures l own) ∙ c.if-bad_record.false in
+    let sizes_said = sym c.bad_sizes.ensures ∙ c.if-bad_sizes.false in
+    let stores_said = sym (c.bad_stores.ensures l own) ∙ c.if-bad_stores.true in
     send_refused_as a.words.now a.rx.now a.tx.now 0 (rw (link, record_said, sizes_said, stores_said)))
     (λ c κs. search rules)
     (λ c κs. search rules)
     (λ c κs.
-    let k = c.before.before in
-    let d = k.before.before in
-    let s = d.before.before.before in
-    let z = s.before.before.before in
-    let b = z.before.before in
-    let n = b.before.before.before in
-    let a = n.before.before.before.before.before.before.args in
+    let a = c.args in
     let l = link_of a.words.now in
-    let link = linked a.words.now n.no_link.ensures b.before.before.if-no_link.false in
+    let link = linked a.words.now c.no_link.ensures c.if-no_link.false in
     let own = own_words a.words.now link in
-    let record_said = sym (b.bad_record.ensures l own) ∙ z.before.if-bad_record.false in
-    let sizes_said = sym z.bad_sizes.ensures ∙ s.before.before.if-bad_sizes.false in
-    let stores_said = sym (s.bad_stores.ensures l own) ∙ d.before.before.if-bad_stores.false in
+    let record_said = sym (c.bad_record.ensures l own) ∙ c.if-bad_record.false in
+    let sizes_said = sym c.bad_sizes.ensures ∙ c.if-bad_sizes.false in
+    let stores_said = sym (c.bad_stores.ensures l own) ∙ c.if-bad_stores.false in
     let passed = refused.both a.words.now (length a.rx.now) (length a.tx.now) (rw (link, record_said, sizes_said, stores_said)) in
-    state_small _ (booked a.tx.now l d.choose-sent.result) (k.book.ensures passed.2 l own passed.0.good))
+    state_small _ (booked a.tx.now l c.choose-sent.result) (c.book.ensures passed.2 l own passed.0.good))
     (λ c κs. search rules)
     (λ c. search rules)
     (λ c κs. search rules)
     (λ c. search rules)
     (λ c. search rules)
     (λ c.
-    let e = c.before.before.before.before.before in
-    let k = e.before.before.before in
-    let d = k.before.before in
-    let s = d.before.before.before in
-    let z = s.before.before.before in
-    let b = z.before.before in
-    let n = b.before.before.before in
-    let a = n.before.before.before.before.before.before.args in
+    let a = c.args in
     let l = link_of a.words.now in
-    let link = linked a.words.now n.no_link.ensures b.before.before.if-no_link.false in
+    let link = linked a.words.now c.no_link.ensures c.if-no_link.false in
     let own = own_words a.words.now link in
-    let record_said = sym (b.bad_record.ensures l own) ∙ z.before.if-bad_record.false in
-    let sizes_said = sym z.bad_sizes.ensures ∙ s.before.before.if-bad_sizes.false in
-    let stores_said = sym (s.bad_stores.ensures l own) ∙ d.before.before.if-bad_stores.false in
+    let record_said = sym (c.bad_record.ensures l own) ∙ c.if-bad_record.false in
+    let sizes_said = sym c.bad_sizes.ensures ∙ c.if-bad_sizes.false in
+    let stores_said = sym (c.bad_stores.ensures l own) ∙ c.if-bad_stores.false in
     let passed = refused.both a.words.now (length a.rx.now) (length a.tx.now) (rw (link, record_said, sizes_said, stores_said)) in
-    let left = e.settle-discarded.ensures passed.1 passed.2 (booked a.tx.now l d.choose-sent.result)
-    (k.book.ensures passed.2 l own passed.0.good) in
-    rw (c.before.before.sent_kind-kind.ensures, c.before.sent_value-value.ensures, left.0, left.1, left.2)
+    let left = c.settle-discarded.ensures passed.1 passed.2 (booked a.tx.now l c.choose-sent.result)
+    (c.book.ensures passed.2 l own passed.0.good) in
+    rw (c.sent_kind-kind.ensures, c.sent_value-value.ensures, left.0, left.1, left.2)
     (sym (send_accepted a.words.now a.rx.now a.tx.now link passed.0.passes
-    (record { link = booked a.tx.now l d.choose-sent.result; sent = d.choose-sent.result })
-    (rw (d.choose-sent.ensures l own passed.0.good))
-    (settles Quiet (record { link = booked a.tx.now l d.choose-sent.result; rx = a.rx.now; tx = a.tx.now })) refl))))
+    (record { link = booked a.tx.now l c.choose-sent.result; sent = c.choose-sent.result })
+    (rw (c.choose-sent.ensures l own passed.0.good))
+    (settles Quiet (record { link = booked a.tx.now l c.choose-sent.result; rx = a.rx.now; tx = a.tx.now })) refl))))

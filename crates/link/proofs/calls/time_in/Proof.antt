@@ -15,4 +15,4 @@ time_in_spec =
     (λ c κs. search rules)
     (λ c. search rules)
     (λ c κs. search rules)
-    (λ c. λ h. rw (c.before.before.byte-count.ensures, byte_back _ h, c.truth-ticked.ensures)))
+    (λ c. λ h. rw (c.byte-count.ensures, byte_back _ h, c.truth-ticked.ensures)))

@@ -11,5 +11,5 @@ may_grant_spec =
     (tie.spec
     (λ c. search rules)
     (λ c. search rules)
-    (λ c. rw (c.before.struct_known-1.given.1, le-leb _ _ c.if-n-le48.true))
-    (λ c. rw (c.before.struct_known-1.given.1, lt-leb _ _ c.if-n-le48.false)))
+    (λ c. rw (c.struct_known-1.given.1, le-leb _ _ c.if-n-le48.true))
+    (λ c. rw (c.struct_known-1.given.1, lt-leb _ _ c.if-n-le48.false)))

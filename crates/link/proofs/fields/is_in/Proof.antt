@@ -12,4 +12,4 @@ is_in_spec =
     (tie.spec
     (λ c κs. search rules)
     (λ c. search rules)
-    (λ c. λ l e. rw (e, c.before.state_number-number.ensures)))
+    (λ c. λ l e. rw (e, c.state_number-number.ensures)))

@@ -12,5 +12,5 @@ unfolding link_words store_of
 rx_in_spec =
     tie.close
     (tie.spec
-    (λ c κs. omega (arith, c.store_at-arg.given.0))
+    (λ c κs. omega (arith, c.store_at-arg-1.given))
     (λ c. (λ l e. c.store_at.ensures.0 ∙ rw e, c.store_at.ensures.1)))

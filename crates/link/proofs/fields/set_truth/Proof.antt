@@ -15,7 +15,7 @@ set_truth_spec =
     (λ c. search rules)
     (λ c. search rules)
     (λ c. search rules)
-    (λ c. rw c.before.before.truth_word-word.ensures)
+    (λ c. rw c.truth_word-word.ensures)
     (λ c.
-    let a = c.before.before.before.args in
-    rw (← c.before.before.truth_word-word.ensures, ← c.if-words-at.false) (sym (set-get_or a.words.now a.at 0))))
+    let a = c.args in
+    rw (← c.truth_word-word.ensures, ← c.if-words-at.false) (sym (set-get_or a.words.now a.at 0))))

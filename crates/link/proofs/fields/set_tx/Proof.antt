@@ -18,9 +18,9 @@ set_tx_spec =
     (λ c. search rules)
     (λ c. λ fits l e.
     rw (
-      c.before.narrow.ensures,
+      c.narrow.ensures,
       c.narrow-2.ensures,
-      narrow_back c.before.before.args.s.front fits.0,
-      narrow_back c.before.before.args.s.len fits.1,
+      narrow_back c.args.s.front fits.0,
+      narrow_back c.args.s.len fits.1,
       e,
     )))

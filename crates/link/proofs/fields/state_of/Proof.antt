@@ -16,4 +16,4 @@ state_of_spec =
     (λ c. search rules)
     (λ c. search rules)
     (λ c. search rules)
-    (λ c. sym (past_the_others c.before.args.n (omega arith))))
+    (λ c. sym (past_the_others c.args.n (omega arith))))

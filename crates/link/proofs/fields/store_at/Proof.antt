@@ -18,10 +18,10 @@ store_at_spec =
     (λ c. search rules)
     (λ c. search rules)
     (λ c κs. search rules)
-    (λ c. let start = c.before.before.before.before in (
+    (λ c. (
       c.store_of.ensures,
       rw c.store_of.ensures (
-        omega (arith, c.before.before.shared_slice_known-2-1.given start.args.k),
-        omega (arith, c.before.shared_slice_known-3-1.given (start.args.k + 1)),
+        omega (arith, c.shared_slice_known-2-1.given c.args.k),
+        omega (arith, c.shared_slice_known-3-1.given (c.args.k + 1)),
       ),
     )))

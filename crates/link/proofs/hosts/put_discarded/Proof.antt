@@ -16,4 +16,4 @@ put_discarded_spec =
     (λ c κs. search rules)
     (λ c κs. search rules)
     (λ c l e.
-    rw (c.set_truth-2.ensures, c.before.before.set_truth.ensures, c.before.before.before.before.is_end-goes_on.ensures, e)))
+    rw (c.set_truth-2.ensures, c.set_truth.ensures, c.is_end-goes_on.ensures, e)))

@@ -18,20 +18,18 @@ put_one_spec =
     (λ c κs. search rules)
     (λ c κs. search rules)
     (λ c.
-    let b = c.before.before in
-    let read = b.before.truth.ensures in (
+    let read = c.truth.ensures in (
       λ small l e.
-          c.put_discarded.ensures l e ∙ rw (truth_told l e DISCARDING l.marks.discarding refl read b.if-truth.true),
-      λ l e. rw (truth_told l e DISCARDING l.marks.discarding refl read b.if-truth.true),
-      λ l e. rw (truth_told l e DISCARDING l.marks.discarding refl read b.if-truth.true),
+          c.put_discarded.ensures l e ∙ rw (truth_told l e DISCARDING l.marks.discarding refl read c.if-truth.true),
+      λ l e. rw (truth_told l e DISCARDING l.marks.discarding refl read c.if-truth.true),
+      λ l e. rw (truth_told l e DISCARDING l.marks.discarding refl read c.if-truth.true),
     ))
     (λ c. search rules)
     (λ c.
-    let stored = c.before.before.put_stored.ensures in
-    let b = c.before.before.before.before.before in
-    let read = b.before.truth.ensures in (
+    let stored = c.put_stored.ensures in
+    let read = c.truth.ensures in (
       λ small l e.
-          stored.0 small l e ∙ rw (truth_told l e DISCARDING l.marks.discarding refl read b.if-truth.false),
-      λ l e. rw (truth_told l e DISCARDING l.marks.discarding refl read b.if-truth.false),
-      λ l e. stored.1 l e ∙ rw (truth_told l e DISCARDING l.marks.discarding refl read b.if-truth.false),
+          stored.0 small l e ∙ rw (truth_told l e DISCARDING l.marks.discarding refl read c.if-truth.false),
+      λ l e. rw (truth_told l e DISCARDING l.marks.discarding refl read c.if-truth.false),
+      λ l e. stored.1 l e ∙ rw (truth_told l e DISCARDING l.marks.discarding refl read c.if-truth.false),
     )))

@@ -21,13 +21,12 @@ put_stored_spec =
     (λ c κs. search rules)
     (λ c. search rules)
     (λ c.
-    let b = c.before.before.before.before.before.before.before.before.before in
-    let a = b.before.before.before.args in
-    let store = b.tx_in-store.ensures in
-    let put = c.before.before.before.before.before.before.put.ensures in (
+    let a = c.args in
+    let store = c.tx_in-store.ensures in
+    let put = c.put.ensures in (
       λ small l e.
           let fits = put_fits a.tx.now _ small store.1 a.n in
-          let written = c.before.before.before.set_tx.ensures (rw put.0 fits) l e in
-          rw (c.set_truth.ensures, written, c.before.is_end.ensures, put.0, store.0 l e),
+          let written = c.set_tx.ensures (rw put.0 fits) l e in
+          rw (c.set_truth.ensures, written, c.is_end.ensures, put.0, store.0 l e),
       λ l e. put.1 ∙ rw (store.0 l e),
     )))

@@ -21,10 +21,10 @@ set_controls_spec =
     (λ c l e.
     rw (
       c.set_truth-3.ensures,
-      c.before.truth-3.ensures,
-      c.before.before.before.set_truth-2.ensures,
-      c.before.before.before.before.truth-2.ensures,
-      c.before.before.before.before.before.before.set_truth.ensures,
-      c.before.before.before.before.before.before.before.truth.ensures,
+      c.truth-3.ensures,
+      c.set_truth-2.ensures,
+      c.truth-2.ensures,
+      c.set_truth.ensures,
+      c.truth.ensures,
       e,
     )))

@@ -21,13 +21,12 @@ take_one_spec =
     (λ c κs. search rules)
     (λ c κs. search rules)
     (λ c.
-    let b = c.before.before.before.before.before.before in
-    let store = b.before.rx_in-store.ensures in
-    let first = b.look-n.ensures in
-    let rest = c.before.before.before.before.drop_first.ensures in (
+    let store = c.rx_in-store.ensures in
+    let first = c.look-n.ensures in
+    let rest = c.drop_first.ensures in (
       λ small l e.
-          let fits = drop_fits b.before.before.before.before.args.rx.now _ small store.1 1 in
-          let written = c.before.before.before.set_rx.ensures (rw rest fits) l e in
-          rw (c.set_truth.ensures, written, c.before.is_end.ensures, first, rest, store.0 l e),
+          let fits = drop_fits c.args.rx.now _ small store.1 1 in
+          let written = c.set_rx.ensures (rw rest fits) l e in
+          rw (c.set_truth.ensures, written, c.is_end.ensures, first, rest, store.0 l e),
       λ l e. first ∙ rw (store.0 l e),
     )))

@@ -14,4 +14,4 @@ at_limit_spec =
     (λ c. search rules)
     (λ c κs. search rules)
     (λ c. search rules)
-    (λ c l e. rw (c.before.limit.ensures, e, state_of_number l.stage.state)))
+    (λ c l e. rw (c.limit.ensures, e, state_of_number l.stage.state)))

@@ -17,7 +17,6 @@ exchanged_spec =
     (λ c. search rules)
     (λ c κs. search rules)
     (λ c l e.
-    let b = c.before.before in
     truth_read l e NULL_SENT l.stage.nullsent refl c.truth-then-truth.ensures
-    ∙ sym (rw (truth_told l e GOT_NULL l.stage.gotnull refl b.before.truth.ensures b.if-truth.true)))
-    (λ c l e. rw (truth_told l e GOT_NULL l.stage.gotnull refl c.before.truth.ensures c.if-truth.false)))
+    ∙ sym (rw (truth_told l e GOT_NULL l.stage.gotnull refl c.truth.ensures c.if-truth.true)))
+    (λ c l e. rw (truth_told l e GOT_NULL l.stage.gotnull refl c.truth.ensures c.if-truth.false)))

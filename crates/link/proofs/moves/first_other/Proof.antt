@@ -30,33 +30,32 @@ first_other_spec =
     (λ c. search rules)
     (λ c. (omega arith, λ l e. refl))
     (λ c κs.
-    let s = c.before.before.before in
-    (s.requires.0, c.loop-column-test.true, s.requires.1))
+    (c.requires.0, c.loop-column-test.true, c.requires.1))
     (λ c κs. search rules)
     (λ c l e.
-    let at = c.before.before.before.before.before.loop-column in
-    let to = c.before.before.before.look_up-to.ensures ∙ cell_read l e at.column in
+    let at = c.loop-column in
+    let to = c.look_up-to.ensures ∙ cell_read l e at.column in
     to
     ∙ sym (ap state_number (at.invariant.1 l e
-    ∙ first_found l.stage.state (conditions l) at.column c.before.before.before.before.loop-column-test.true
-    (λ same. c.before.before.if-to-state.true (to ∙ same ∙ sym (state_read l e)))
-    (sym (c.before.column_holds.ensures l e) ∙ c.if-column_holds.true))))
+    ∙ first_found l.stage.state (conditions l) at.column c.loop-column-test.true
+    (λ same. c.if-to-state.true (to ∙ same ∙ sym (state_read l e)))
+    (sym (c.column_holds.ensures l e) ∙ c.if-column_holds.true))))
     (λ c. omega arith)
     (λ c. omega arith)
     (λ c.
-    let at = c.before.before.before.loop-column in
-    let inside = c.before.before.loop-column-test.true in (
+    let at = c.loop-column in
+    let inside = c.loop-column-test.true in (
       omega arith,
       λ l e.
           at.invariant.1 l e
           ∙ ⊎_elim
-          (λ w. first_passes l.stage.state (conditions l) at.column inside (sym (w.1.ensures l e) ∙ w.2.left))
+          (λ w. first_passes l.stage.state (conditions l) at.column inside (sym (w.column_holds.ensures l e) ∙ w.if-column_holds.false))
           (λ w.
           first_stays l.stage.state (conditions l) at.column inside
-          (sym (c.before.look_up-to.ensures ∙ cell_read l e at.column) ∙ w.left ∙ state_read l e))
-          c.if-to-state.branch,
+          (sym (c.look_up-to.ensures ∙ cell_read l e at.column) ∙ w.if-to-state.false ∙ state_read l e))
+          c.if-to-state.branch-raw,
     ))
     (λ c l e.
-    let at = c.before.loop-column in
+    let at = c.loop-column in
     let none = first_done l.stage.state (conditions l) at.column c.loop-column-test.false in
     state_read l e ∙ sym (ap state_number (at.invariant.1 l e ∙ none))))

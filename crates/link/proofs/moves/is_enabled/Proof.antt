@@ -20,28 +20,22 @@ is_enabled_spec =
     (λ c κs. search rules)
     (λ c. search rules)
     (λ c κs. search rules)
-    (λ c l e. rw (truth_told l e DISABLED l.controls.disabled refl c.before.truth.ensures c.if-truth.true))
+    (λ c l e. rw (truth_told l e DISABLED l.controls.disabled refl c.truth.ensures c.if-truth.true))
     (λ c l e.
-    let b = c.before.before.before in
     rw (
-      truth_told l e DISABLED l.controls.disabled refl b.before.truth.ensures b.if-truth.false,
-      truth_told l e START l.controls.start refl c.before.truth-else-truth.ensures c.if-truth-2.true,
+      truth_told l e DISABLED l.controls.disabled refl c.truth.ensures c.if-truth.false,
+      truth_told l e START l.controls.start refl c.truth-else-truth.ensures c.if-truth-2.true,
     ))
     (λ c l e.
-    let d = c.before.before in
-    let b = d.before.before.before in
-    let a = b.before.before.before in
     truth_read l e GOT_NULL l.stage.gotnull refl c.truth-then-truth-3.ensures
     ∙ sym (rw (
-      truth_told l e DISABLED l.controls.disabled refl a.before.truth.ensures a.if-truth.false,
-      truth_told l e START l.controls.start refl b.before.truth-else-truth.ensures b.if-truth-2.false,
-      truth_told l e AUTO l.controls.auto refl d.before.truth-else-truth-2.ensures d.if-truth-3.true,
+      truth_told l e DISABLED l.controls.disabled refl c.truth.ensures c.if-truth.false,
+      truth_told l e START l.controls.start refl c.truth-else-truth.ensures c.if-truth-2.false,
+      truth_told l e AUTO l.controls.auto refl c.truth-else-truth-2.ensures c.if-truth-3.true,
     )))
     (λ c l e.
-    let b = c.before.before.before in
-    let a = b.before.before.before in
     rw (
-      truth_told l e DISABLED l.controls.disabled refl a.before.truth.ensures a.if-truth.false,
-      truth_told l e START l.controls.start refl b.before.truth-else-truth.ensures b.if-truth-2.false,
-      truth_told l e AUTO l.controls.auto refl c.before.truth-else-truth-2.ensures c.if-truth-3.false,
+      truth_told l e DISABLED l.controls.disabled refl c.truth.ensures c.if-truth.false,
+      truth_told l e START l.controls.start refl c.truth-else-truth.ensures c.if-truth-2.false,
+      truth_told l e AUTO l.controls.auto refl c.truth-else-truth-2.ensures c.if-truth-3.false,
     )))

@@ -15,4 +15,4 @@ limit_spec =
     (λ c. search rules)
     (λ c. search rules)
     (λ c. search rules)
-    (λ c. rw (past_the_others c.before.args.state (omega arith))))
+    (λ c. rw (past_the_others c.args.state (omega arith))))

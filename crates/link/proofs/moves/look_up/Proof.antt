@@ -15,12 +15,10 @@ look_up_spec =
     (λ c. search rules)
     (λ c. search rules)
     (λ c.
-    let s = c.before in
     omega (
       arith,
-      s.requires.2 s.args.state s.args.column s.requires.0 s.requires.1,
-      number_small (table_at (state_of s.args.state) s.args.column),
+      c.requires.2 c.args.state c.args.column c.requires.0 c.requires.1,
+      number_small (table_at (state_of c.args.state) c.args.column),
     ))
     (λ c.
-    let s = c.before in
-    s.requires.2 s.args.state s.args.column s.requires.0 s.requires.1))
+    c.requires.2 c.args.state c.args.column c.requires.0 c.requires.1))

@@ -14,19 +14,16 @@ next_state_spec =
     (λ c. search rules)
     (λ c κs. search rules)
     (λ c κs.
-    let s = c.before.before.before in
-    (s.requires, rw c.event_number.ensures (event_small s.args.e), table_right))
-    (λ c κs. (c.before.before.before.before.before.before.requires, table_right))
+    (c.requires, rw c.event_number.ensures (event_small c.args.e), table_right))
+    (λ c κs. (c.requires, table_right))
     (λ c l e.
-    let b = c.before.before.before in
-    let event = b.before.before.before.before.args.e in
-    let to = (rw b.before.event_number.ensures at b.look_up-to.ensures) ∙ cell_read l e (event_number event) in
-    let stays = sym to ∙ c.before.before.if-to-state.true ∙ state_read l e in
+    let event = c.args.e in
+    let to = (rw c.event_number.ensures at c.look_up-to.ensures) ∙ cell_read l e (event_number event) in
+    let stays = sym to ∙ c.if-to-state.true ∙ state_read l e in
     c.first_other.ensures l e ∙ sym (ap state_number (event_stays l.stage.state event (conditions l) stays)))
     (λ c l e.
-    let b = c.before in
-    let event = b.before.before.before.before.args.e in
-    let to = (rw b.before.event_number.ensures at b.look_up-to.ensures) ∙ cell_read l e (event_number event) in
+    let event = c.args.e in
+    let to = (rw c.event_number.ensures at c.look_up-to.ensures) ∙ cell_read l e (event_number event) in
     to
     ∙ sym (ap state_number
     (event_moves l.stage.state event (conditions l) (λ same. c.if-to-state.false (to ∙ same ∙ sym (state_read l e)))))))

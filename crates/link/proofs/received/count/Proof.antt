@@ -21,10 +21,10 @@ count_spec =
     (λ c. search rules)
     (λ c. search rules)
     (λ c l e.
-    let ticks : c.before.before.counts_ticks.result ≡ counts_ticks l.stage.state =
-    c.before.before.counts_ticks.ensures ∙ rw e (ap counts_ticks (state_of_number l.stage.state)) in
-    rw (← ticks, c.before.if-counts_ticks.true, e))
+    let ticks : c.counts_ticks.result ≡ counts_ticks l.stage.state =
+    c.counts_ticks.ensures ∙ rw e (ap counts_ticks (state_of_number l.stage.state)) in
+    rw (← ticks, c.if-counts_ticks.true, e))
     (λ c l e.
-    let ticks : c.before.counts_ticks.result ≡ counts_ticks l.stage.state =
-    c.before.counts_ticks.ensures ∙ rw e (ap counts_ticks (state_of_number l.stage.state)) in
+    let ticks : c.counts_ticks.result ≡ counts_ticks l.stage.state =
+    c.counts_ticks.ensures ∙ rw e (ap counts_ticks (state_of_number l.stage.state)) in
     rw (← ticks, c.if-counts_ticks.false) e))

@@ -9,5 +9,5 @@ fault_event_spec =
     tie.close
     (tie.spec
     (λ c κs. search rules)
-    (λ c l e. rw (← c.before.ignores_fault.ensures l e, c.if-ignores_fault.true))
-    (λ c l e. rw (← c.before.ignores_fault.ensures l e, c.if-ignores_fault.false)))
+    (λ c l e. rw (← c.ignores_fault.ensures l e, c.if-ignores_fault.true))
+    (λ c l e. rw (← c.ignores_fault.ensures l e, c.if-ignores_fault.false)))

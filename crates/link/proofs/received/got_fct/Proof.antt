@@ -21,22 +21,17 @@ got_fct_spec =
     (λ c κs. search rules)
     (λ c κs. search rules)
     (λ c.
-    let b = c.before.before.before in
-    omega (arith, ltb-false 56 (b.before.held_in-held.result.0 + 8) (sym b.passes_56.ensures ∙ c.before.before.if-passes_56.false)))
+    omega (arith, ltb-false 56 (c.held_in-held.result.0 + 8) (sym c.passes_56.ensures ∙ c.if-passes_56.false)))
     (λ c κs. search rules)
     (λ c κs. search rules)
     (λ c κs. search rules)
     (λ c l e g.
-    let a = c.before.before.before.before.before in
-    let b = c.before.before in
-    let held = b.before.held_in-held.ensures l e g in
-    let past : b.passes_56.result ≡ passes56 l.credit.held.0 = b.passes_56.ensures ∙ rw held in
-    rw (← a.before.takes_fct.ensures l e, a.if-takes_fct.true, ← past, c.before.if-passes_56.true) (c.heard.ensures, e))
+    let held = c.held_in-held.ensures l e g in
+    let past : c.passes_56.result ≡ passes56 l.credit.held.0 = c.passes_56.ensures ∙ rw held in
+    rw (← c.takes_fct.ensures l e, c.if-takes_fct.true, ← past, c.if-passes_56.true) (c.heard.ensures, e))
     (λ c l e g.
-    let a = c.before.before.before.before.before.before.before.before in
-    let b = c.before.before.before.before.before in
-    let held = b.before.held_in-held.ensures l e g in
-    let past : b.passes_56.result ≡ passes56 l.credit.held.0 = b.passes_56.ensures ∙ rw held in
-    rw (← a.before.takes_fct.ensures l e, a.if-takes_fct.true, ← past, c.before.before.before.before.if-passes_56.false)
-    (c.heard-else-passes_56.ensures, c.before.set_held.ensures l e ∙ rw held))
-    (λ c l e g. rw (← c.before.before.takes_fct.ensures l e, c.before.if-takes_fct.false) (c.heard-else-takes_fct.ensures, e)))
+    let held = c.held_in-held.ensures l e g in
+    let past : c.passes_56.result ≡ passes56 l.credit.held.0 = c.passes_56.ensures ∙ rw held in
+    rw (← c.takes_fct.ensures l e, c.if-takes_fct.true, ← past, c.if-passes_56.false)
+    (c.heard-else-passes_56.ensures, c.set_held.ensures l e ∙ rw held))
+    (λ c l e g. rw (← c.takes_fct.ensures l e, c.if-takes_fct.false) (c.heard-else-takes_fct.ensures, e)))

@@ -21,18 +21,14 @@ got_n_char_spec =
     (λ c κs. search rules)
     (λ c κs. search rules)
     (λ c small l e g.
-    let a = c.before.before.before.before.before in
-    let b = c.before.before in
-    let none : b.none_given.result ≡ none_given l.credit.given.0 =
-    b.none_given.ensures ∙ rw (b.before.given_in.ensures l e g) in
-    rw (← a.before.is_in.ensures l e, a.if-is_in.true, ← none, c.before.if-none_given.true) (c.heard.ensures, e, refl))
+    let none : c.none_given.result ≡ none_given l.credit.given.0 =
+    c.none_given.ensures ∙ rw (c.given_in.ensures l e g) in
+    rw (← c.is_in.ensures l e, c.if-is_in.true, ← none, c.if-none_given.true) (c.heard.ensures, e, refl))
     (λ c. search rules)
     (λ c small l e g.
-    let a = c.before.before.before.before.before.before.before.before.before.before in
-    let b = c.before.before.before.before.before.before.before in
-    let none : b.none_given.result ≡ none_given l.credit.given.0 =
-    b.none_given.ensures ∙ rw (b.before.given_in.ensures l e g) in
-    let stored = c.before.before.before.store_n_char.ensures in
-    rw (← a.before.is_in.ensures l e, a.if-is_in.true, ← none, c.before.before.before.before.before.before.if-none_given.false)
+    let none : c.none_given.result ≡ none_given l.credit.given.0 =
+    c.none_given.ensures ∙ rw (c.given_in.ensures l e g) in
+    let stored = c.store_n_char.ensures in
+    rw (← c.is_in.ensures l e, c.if-is_in.true, ← none, c.if-none_given.false)
     (c.heard-else-none_given.ensures, stored.0 small l e g, stored.1 l e))
-    (λ c small l e g. rw (← c.before.before.is_in.ensures l e, c.before.if-is_in.false) (c.heard-else-is_in.ensures, e, refl)))
+    (λ c small l e g. rw (← c.is_in.ensures l e, c.if-is_in.false) (c.heard-else-is_in.ensures, e, refl)))

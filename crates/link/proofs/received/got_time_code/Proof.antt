@@ -16,6 +16,5 @@ got_time_code_spec =
     (λ c κs. search rules)
     (λ c κs. search rules)
     (λ c l e.
-    let b = c.before.before in
-    rw (← b.before.is_in.ensures l e, b.if-is_in.true, ← c.before.after-next.ensures) c.heard.ensures)
-    (λ c l e. rw (← c.before.before.is_in.ensures l e, c.before.if-is_in.false) c.heard-else-is_in.ensures))
+    rw (← c.is_in.ensures l e, c.if-is_in.true, ← c.after-next.ensures) c.heard.ensures)
+    (λ c l e. rw (← c.is_in.ensures l e, c.if-is_in.false) c.heard-else-is_in.ensures))

@@ -42,14 +42,14 @@ hear_spec =
     (λ c κs. search rules)
     (λ c small l e g.
     let is = c.in-Null.is in
-    rw is (c.heard.ensures, c.before.got_null.ensures l e, refl))
+    rw is (c.heard.ensures, c.got_null.ensures l e, refl))
     (λ c small l e g.
     let fct = c.got_fct.ensures l e g in
     rw c.in-Fct.is (fct.0, fct.1, refl))
     (λ c. search rules)
     (λ c small l e g.
     let is = c.in-NChar.is in
-    rw is (c.before.before.got_n_char.ensures small l e g))
+    rw is (c.got_n_char.ensures small l e g))
     (λ c small l e g.
     let kept = e ∙ ap link_words (sym (time_code_keeps l _ _)) in
     rw c.in-TimeCode.is (c.got_time_code.ensures l e, kept, refl)))

@@ -15,11 +15,10 @@ ignores_most_spec =
     (λ c κs. search rules)
     (λ c. search rules)
     (λ c κs. search rules)
-    (λ c l e. rw (← c.before.ignores_all.ensures l e, c.if-ignores_all.true))
+    (λ c l e. rw (← c.ignores_all.ensures l e, c.if-ignores_all.true))
     (λ c l e.
-    let b = c.before.before in
     rw (
       truth_read l e GOT_NULL l.stage.gotnull refl c.truth.ensures,
-      ← b.before.ignores_all.ensures l e,
-      b.if-ignores_all.false,
+      ← c.ignores_all.ensures l e,
+      c.if-ignores_all.false,
     )))

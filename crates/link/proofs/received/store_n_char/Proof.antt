@@ -26,23 +26,22 @@ store_n_char_spec =
     (λ c κs. search rules)
     (λ c. search rules)
     (λ c.
-    let b = c.before.before.before.before.before.before.before.before.before in
-    let a = b.before.before.before.before.before.before.before.before.args in
-    let store = b.rx_in-store.ensures in
-    let put = c.before.before.before.before.before.before.put.ensures in
-    let less : Link → Link = λ (l : Link). with_given l b.before.before.before.one_given_less.result.0 in (
+    let a = c.args in
+    let store = c.rx_in-store.ensures in
+    let put = c.put.ensures in
+    let less : Link → Link = λ (l : Link). with_given l c.one_given_less.result.0 in (
       λ small l e g.
-          let credit = b.before.before.set_given.ensures l e in
+          let credit = c.set_given.ensures l e in
           let fits = put_fits a.rx.now _ small store.1 a.n in
-          let written = c.before.before.before.set_rx.ensures (rw put.0 fits) (less l) credit in
+          let written = c.set_rx.ensures (rw put.0 fits) (less l) credit in
           rw (
             c.set_truth.ensures,
             written,
-            c.before.is_end.ensures,
+            c.is_end.ensures,
             put.0,
             store.0 (less l) credit,
-            b.before.before.before.one_given_less.ensures,
-            b.before.before.before.before.before.given_in-given.ensures l e g,
+            c.one_given_less.ensures,
+            c.given_in-given.ensures l e g,
           ),
-      λ l e. put.1 ∙ rw (store.0 (less l) (b.before.before.set_given.ensures l e)),
+      λ l e. put.1 ∙ rw (store.0 (less l) (c.set_given.ensures l e)),
     )))

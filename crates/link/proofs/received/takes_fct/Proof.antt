@@ -11,5 +11,5 @@ takes_fct_spec =
     (tie.spec
     (λ c κs. search rules)
     (λ c κs. search rules)
-    (λ c l e. rw (← c.before.is_in.ensures l e, c.if-is_in.true))
-    (λ c l e. c.is_in-else-is_in.ensures l e ∙ rw (← c.before.before.is_in.ensures l e, c.before.if-is_in.false)))
+    (λ c l e. rw (← c.is_in.ensures l e, c.if-is_in.true))
+    (λ c l e. c.is_in-else-is_in.ensures l e ∙ rw (← c.is_in.ensures l e, c.if-is_in.false)))

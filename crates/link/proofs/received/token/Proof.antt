@@ -16,9 +16,7 @@ token_spec =
     (λ c κs. search rules)
     (λ c κs. search rules)
     (λ c small l e g.
-    let b = c.before in
-    rw (← b.before.ignores_token.ensures l e, b.if-ignores_token.true) (c.heard.ensures, e, refl))
+    rw (← c.ignores_token.ensures l e, c.if-ignores_token.true) (c.heard.ensures, e, refl))
     (λ c. search rules)
     (λ c small l e g.
-    let b = c.before.before.before.before.before in
-    rw (← b.before.ignores_token.ensures l e, b.if-ignores_token.false) (c.before.before.hear.ensures small l e g)))
+    rw (← c.ignores_token.ensures l e, c.if-ignores_token.false) (c.hear.ensures small l e g)))

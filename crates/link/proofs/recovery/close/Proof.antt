@@ -24,26 +24,23 @@ close_spec =
     (λ c. search rules)
     (λ c. search rules)
     (λ c.
-    let p = c.before.before.before in
-    let r = p.before.before.before in
-    let b = r.before.before in
-    let rx = b.before.before.before.before.args.rx.now in
-    let store = r.rx_in-store.result in (
+    let rx = c.args.rx.now in
+    let store = c.rx_in-store.result in (
       λ small l e.
           rw (
-            c.set_rx.ensures (rw p.put.ensures.0 (put_fits rx store small r.rx_in-store.ensures.1 EEP)) l e,
-            p.put.ensures.0,
-            r.rx_in-store.ensures.0 l e,
-            truth_told l e STORED l.marks.stored refl b.before.truth.ensures b.if-truth.true,
+            c.set_rx.ensures (rw c.put.ensures.0 (put_fits rx store small c.rx_in-store.ensures.1 EEP)) l e,
+            c.put.ensures.0,
+            c.rx_in-store.ensures.0 l e,
+            truth_told l e STORED l.marks.stored refl c.truth.ensures c.if-truth.true,
           ),
       λ l e.
           rw (
-            p.put.ensures.1,
-            r.rx_in-store.ensures.0 l e,
-            truth_told l e STORED l.marks.stored refl b.before.truth.ensures b.if-truth.true,
+            c.put.ensures.1,
+            c.rx_in-store.ensures.0 l e,
+            truth_told l e STORED l.marks.stored refl c.truth.ensures c.if-truth.true,
           ),
     ))
     (λ c. (
-      λ small l e. e ∙ rw (truth_told l e STORED l.marks.stored refl c.before.truth.ensures c.if-truth.false),
-      λ l e. rw (truth_told l e STORED l.marks.stored refl c.before.truth.ensures c.if-truth.false),
+      λ small l e. e ∙ rw (truth_told l e STORED l.marks.stored refl c.truth.ensures c.if-truth.false),
+      λ l e. rw (truth_told l e STORED l.marks.stored refl c.truth.ensures c.if-truth.false),
     )))

@@ -27,24 +27,19 @@ discard_rest_spec =
     (λ c. search rules)
     (λ c κs. search rules)
     (λ c.
-    let s = c.before.before.before in
-    let d = s.before in
-    let f = d.before.before in
-    let t = f.before in
-    let b = t.before.before in
-    let tx = b.before.before.before.before.args.tx.now in (
+    let tx = c.args.tx.now in (
       λ small l e.
-          let fits = drop_fits tx t.tx_in-store.result small t.tx_in-store.ensures.1 f.find_end-found.result.count in
-          let left = s.set_tx.ensures (rw d.drop_found.ensures fits) l e in
-          let sent = truth_told l e SENT l.marks.sent refl b.before.truth.ensures b.if-truth.true in
-          let found = rw (t.tx_in-store.ensures.0 l e) at f.find_end-found.ensures in
+          let fits = drop_fits tx c.tx_in-store.result small c.tx_in-store.ensures.1 c.find_end-found.result.count in
+          let left = c.set_tx.ensures (rw c.drop_found.ensures fits) l e in
+          let sent = truth_told l e SENT l.marks.sent refl c.truth.ensures c.if-truth.true in
+          let found = rw (c.tx_in-store.ensures.0 l e) at c.find_end-found.ensures in
           ⊎_elim
           (λ w.
           rw (
             w.1,
             left,
-            d.drop_found.ensures,
-            t.tx_in-store.ensures.0 l e,
+            c.drop_found.ensures,
+            c.tx_in-store.ensures.0 l e,
             sent,
             ← found,
             w.0.taken,
@@ -54,23 +49,23 @@ discard_rest_spec =
           rw (
             w.1,
             left,
-            d.drop_found.ensures,
-            t.tx_in-store.ensures.0 l e,
+            c.drop_found.ensures,
+            c.tx_in-store.ensures.0 l e,
             sent,
             ← found,
             w.0.left,
             or-false l.marks.discarding,
           ))
-          c.before.if-not-found.branch,
+          c.if-not-found.branch,
       λ l e.
           rw (
             c.narrow.ensures,
-            f.find_end-found.ensures,
-            t.tx_in-store.ensures.0 l e,
-            truth_told l e SENT l.marks.sent refl b.before.truth.ensures b.if-truth.true,
+            c.find_end-found.ensures,
+            c.tx_in-store.ensures.0 l e,
+            truth_told l e SENT l.marks.sent refl c.truth.ensures c.if-truth.true,
           ),
     ))
     (λ c. (
-      λ small l e. e ∙ rw (truth_told l e SENT l.marks.sent refl c.before.truth.ensures c.if-truth.false),
-      λ l e. rw (truth_told l e SENT l.marks.sent refl c.before.truth.ensures c.if-truth.false),
+      λ small l e. e ∙ rw (truth_told l e SENT l.marks.sent refl c.truth.ensures c.if-truth.false),
+      λ l e. rw (truth_told l e SENT l.marks.sent refl c.truth.ensures c.if-truth.false),
     )))

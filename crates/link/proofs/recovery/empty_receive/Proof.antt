@@ -25,25 +25,22 @@ empty_receive_spec =
     (λ c κs. search rules)
     (λ c. search rules)
     (λ c.
-    let p = c.before.before.before in
-    let f = p.before.before in
-    let b = f.before.before in
-    let rx = b.before.before.before.before.args.rx.now in (
+    let rx = c.args.rx.now in (
       λ small l e.
-          let put = rw f.fresh.ensures at p.put.ensures.0 in
+          let put = rw c.fresh.ensures at c.put.ensures.0 in
           c.set_rx.ensures (rw put (put_fits rx fresh_store small fresh_fits EEP)) l e
-          ∙ sym (rw (truth_told l e TAKEN l.marks.taken refl b.before.truth.ensures b.if-truth.true, put)),
+          ∙ sym (rw (truth_told l e TAKEN l.marks.taken refl c.truth.ensures c.if-truth.true, put)),
       λ l e.
           rw (
-            p.put.ensures.1,
-            f.fresh.ensures,
-            truth_told l e TAKEN l.marks.taken refl b.before.truth.ensures b.if-truth.true,
+            c.put.ensures.1,
+            c.fresh.ensures,
+            truth_told l e TAKEN l.marks.taken refl c.truth.ensures c.if-truth.true,
           ),
     ))
     (λ c.
-    let b = c.before.before.before in (
+    (
       λ small l e.
-          let taken = truth_told l e TAKEN l.marks.taken refl b.before.truth.ensures b.if-truth.false in
-          c.set_rx-else-truth.ensures (rw c.before.fresh-else-truth.ensures fresh_fits) l e ∙ rw (c.before.fresh-else-truth.ensures, taken),
-      λ l e. rw (truth_told l e TAKEN l.marks.taken refl b.before.truth.ensures b.if-truth.false),
+          let taken = truth_told l e TAKEN l.marks.taken refl c.truth.ensures c.if-truth.false in
+          c.set_rx-else-truth.ensures (rw c.fresh-else-truth.ensures fresh_fits) l e ∙ rw (c.fresh-else-truth.ensures, taken),
+      λ l e. rw (truth_told l e TAKEN l.marks.taken refl c.truth.ensures c.if-truth.false),
     )))

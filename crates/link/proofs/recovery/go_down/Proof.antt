@@ -16,13 +16,11 @@ go_down_spec =
     (λ c κs. search rules)
     (λ c. search rules)
     (λ c rx tx l e.
-    let b = c.before.before.before.before in
-    let a = b.before.before.before in
-    let places = a.before.before.before.before.args.rx.now in
-    let clear = a.clear.ensures l e in
+    let places = c.args.rx.now in
+    let clear = c.clear.ensures l e in
     let closed = closed_link (length places) (cleared l) in
-    let close = b.close.ensures.0 rx (cleared l) clear in (
+    let close = c.close.ensures.0 rx (cleared l) clear in (
       c.discard_rest.ensures.0 tx closed close,
       c.discard_rest.ensures.1 closed close,
-      b.close.ensures.1 (cleared l) clear,
+      c.close.ensures.1 (cleared l) clear,
     )))

@@ -30,21 +30,18 @@ move_to_spec =
     (λ c κs. search rules)
     (λ c. search rules)
     (λ c small other rx tx l e.
-    let g = c.before.before in
-    let b = g.before.before.before in
-    let a = b.before.before.before.args in
+    let a = c.args in
     let is = number_of_state a.next small in
     rw
     (falls (state_of a.next) (record { link = l; rx = a.rx.now; tx = a.tx.now })
     (λ same. other (sym is ∙ same ∙ sym (state_read l e)))
-    (is ∙ b.if-next-eq0.true))
-    (g.go_down.ensures rx tx l e))
+    (is ∙ c.if-next-eq0.true))
+    (c.go_down.ensures rx tx l e))
     (λ c small other rx tx l e.
-    let b = c.before.before in
-    let a = b.before.before.before.args in
+    let a = c.args in
     let is = number_of_state a.next small in
     rw
     (goes (state_of a.next) (record { link = l; rx = a.rx.now; tx = a.tx.now })
     (λ same. other (sym is ∙ same ∙ sym (state_read l e)))
-    (λ zero. b.if-next-eq0.false (sym is ∙ zero)))
+    (λ zero. c.if-next-eq0.false (sym is ∙ zero)))
     (c.enter.ensures small l e, refl, refl)))

@@ -30,18 +30,14 @@ reset_all_spec =
     (λ c κs. search rules)
     (λ c. search rules)
     (λ c.
-    let t = c.before.before in
-    let r = t.before.before.before.before.before in
-    let a = r.before.before.before in
-    let sent = a.before.before in
-    let rx = sent.before.before.before.args.rx.now in (
+    let rx = c.args.rx.now in (
       λ small l e.
-          let receive = r.empty_receive.ensures.0 small (cleared l) (a.clear.ensures l e) in
+          let receive = c.empty_receive.ensures.0 small (cleared l) (c.clear.ensures l e) in
           let emptied = with_rx (cleared l) (pick l.marks.taken (put_store (length rx) fresh_store EEP) fresh_store) in
           rw (
-            t.set_tx.ensures (rw t.before.fresh.ensures fresh_fits) emptied receive,
-            t.before.fresh.ensures,
+            c.set_tx.ensures (rw c.fresh.ensures fresh_fits) emptied receive,
+            c.fresh.ensures,
           ),
-      λ l e. rw (c.narrow.ensures, sent.tx_in-transmit.ensures.0 l e),
-      λ l e. r.empty_receive.ensures.1 (cleared l) (a.clear.ensures l e),
+      λ l e. rw (c.narrow.ensures, c.tx_in-transmit.ensures.0 l e),
+      λ l e. c.empty_receive.ensures.1 (cleared l) (c.clear.ensures l e),
     )))

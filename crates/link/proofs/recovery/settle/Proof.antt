@@ -25,17 +25,13 @@ settle_spec =
     (λ c. search rules)
     (λ c κs. search rules)
     (λ c rx tx l e.
-    let n = c.before.before in
-    let a = n.before.before.before.before.args in
+    let a = c.args in
     rw
     (stays (next_state a.e l) (record { link = l; rx = a.rx.now; tx = a.tx.now })
-    (sym (n.next_state-next.ensures l e) ∙ c.if-next-words.true ∙ state_read l e))
+    (sym (c.next_state-next.ensures l e) ∙ c.if-next-words.true ∙ state_read l e))
     (e, refl, refl))
     (λ c. search rules)
     (λ c rx tx l e.
-    let m = c.before.before in
-    let b = m.before.before.before in
-    let n = b.before.before in
-    let s = next_state n.before.before.before.before.args.e l in
-    let next = n.next_state-next.ensures l e in
-    rw (next, state_of_number s) at (m.move_to.ensures (rw next (number_small s)) b.if-next-words.false rx tx l e)))
+    let s = next_state c.args.e l in
+    let next = c.next_state-next.ensures l e in
+    rw (next, state_of_number s) at (c.move_to.ensures (rw next (number_small s)) c.if-next-words.false rx tx l e)))

@@ -44,16 +44,13 @@ bad_in_spec =
     (λ c. search rules)
     (λ c at l e.
     let held = first_applies (bad_given l.stage.state l.credit.given.0)
-    (c.before.bad_held.ensures ∙ held_read l at e) c.if-bad_held.true in
+    (c.bad_held.ensures ∙ held_read l at e) c.if-bad_held.true in
     first_applies _ refl (sym held))
     (λ c at l e.
-    let h = c.before.before.before in
-    let given = then_second (h.before.bad_held.ensures ∙ held_read l at e) h.if-bad_held.false
-    (sym c.if-bad_given.true ∙ c.before.bad_given.ensures ∙ given_read l at e) in
+    let given = then_second (c.bad_held.ensures ∙ held_read l at e) c.if-bad_held.false
+    (sym c.if-bad_given.true ∙ c.bad_given.ensures ∙ given_read l at e) in
     first_applies _ refl (sym given))
     (λ c at l e.
-    let g = c.before.before in
-    let h = g.before.before.before in
-    let credit = then_second (h.before.bad_held.ensures ∙ held_read l at e) h.if-bad_held.false
-    (sym g.if-bad_given.false ∙ g.before.bad_given.ensures ∙ given_read l at e) in
-    then_second refl (sym credit) (rw c.before.limit.ensures (timer_read l at e))))
+    let credit = then_second (c.bad_held.ensures ∙ held_read l at e) c.if-bad_held.false
+    (sym c.if-bad_given.false ∙ c.bad_given.ensures ∙ given_read l at e) in
+    then_second refl (sym credit) (rw c.limit.ensures (timer_read l at e))))

@@ -13,8 +13,7 @@ bad_receive_spec =
     (λ c κs. search rules)
     (λ c κs. search rules)
     (λ c l e.
-    first_applies _ (rw (c.before.before.rx_in.ensures.0 l e) at c.before.bad.ensures) c.if-bad.true)
+    first_applies _ (rw (c.rx_in.ensures.0 l e) at c.bad.ensures) c.if-bad.true)
     (λ c l e.
-    let b = c.before in
-    then_second (rw (b.before.before.rx_in.ensures.0 l e) at b.before.bad.ensures) b.if-bad.false
+    then_second (rw (c.rx_in.ensures.0 l e) at c.bad.ensures) c.if-bad.false
     (c.lacks_room.ensures l e)))

@@ -10,4 +10,4 @@ bad_sizes_spec =
     (tie.spec
     (λ c κs. search rules)
     (λ c κs. search rules)
-    (λ c. rw (c.before.bad_rx_size.ensures, c.bad_tx_size.ensures)))
+    (λ c. rw (c.bad_rx_size.ensures, c.bad_tx_size.ensures)))

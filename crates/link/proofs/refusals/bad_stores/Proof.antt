@@ -11,6 +11,6 @@ bad_stores_spec =
     (tie.spec
     (λ c κs. search rules)
     (λ c κs. search rules)
-    (λ c l e. first_applies _ (c.before.bad_receive.ensures l e) c.if-bad_receive.true)
+    (λ c l e. first_applies _ (c.bad_receive.ensures l e) c.if-bad_receive.true)
     (λ c l e.
-    then_second (c.before.before.bad_receive.ensures l e) c.before.if-bad_receive.false (c.bad_transmit.ensures l e)))
+    then_second (c.bad_receive.ensures l e) c.if-bad_receive.false (c.bad_transmit.ensures l e)))

@@ -14,5 +14,5 @@ bad_time_spec =
     (λ c. search rules)
     (λ c κs. search rules)
     (λ c. search rules)
-    (λ c. let start = c.before.before.before.before in
-    rw (c.before.no_truth.ensures, no_time start.args.time.now start.requires)))
+    (λ c.
+    rw (c.no_truth.ensures, no_time c.args.time.now c.requires)))

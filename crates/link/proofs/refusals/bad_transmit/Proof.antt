@@ -10,4 +10,4 @@ bad_transmit_spec =
     (tie.spec
     (λ c κs. search rules)
     (λ c κs. search rules)
-    (λ c. λ l e. rw (c.bad.ensures, c.before.tx_in.ensures.0 l e)))
+    (λ c. λ l e. rw (c.bad.ensures, c.tx_in.ensures.0 l e)))

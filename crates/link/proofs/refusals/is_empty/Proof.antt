@@ -10,4 +10,4 @@ is_empty_spec =
     (tie.spec
     (λ c κs. search rules)
     (λ c κs. search rules)
-    (λ c. λ l e. rw (c.is_empty.ensures, c.before.rx_in.ensures.0 l e)))
+    (λ c. λ l e. rw (c.is_empty.ensures, c.rx_in.ensures.0 l e)))

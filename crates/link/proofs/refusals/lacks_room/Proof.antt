@@ -33,11 +33,11 @@ lacks_room_spec =
     (λ c κs. search rules)
     (λ c. λ l e.
     rw (
-      c.before.before.before.before.wide-given.ensures,
+      c.wide-given.ensures,
       c.truth.ensures,
-      c.before.before.free_places-free.ensures,
-      c.before.before.before.rx_in.ensures.0 l e,
+      c.free_places-free.ensures,
+      c.rx_in.ensures.0 l e,
       e,
       truth_back l.marks.stored,
-      at_most (free c.before.before.before.before.before.before.args.size l.rx) l.credit.given.0,
+      at_most (free c.args.size l.rx) l.credit.given.0,
     )))

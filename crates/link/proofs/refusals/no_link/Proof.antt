@@ -34,7 +34,5 @@ no_link_spec =
     (λ c κs. search rules)
     (λ c. search rules)
     (λ c κs. search rules)
-    (λ c. let controls = c.before.before.before.before.before.before.before.before in
-    let marks = controls.before.before.before.before.before.before.before.before in
-    let start = marks.before.before.before.before.before.before.before.before.before.before in
-    cc (no_link start.args.words.now start.requires)))
+    (λ c.
+    cc (no_link c.args.words.now c.requires)))

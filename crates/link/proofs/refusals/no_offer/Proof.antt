@@ -22,6 +22,6 @@ no_offer_spec =
     tie.close
     (tie.spec
     (λ c. rw c.in-0.is)
-    (λ c. rw c.in-1.is (above_byte c.before.args.code))
-    (λ c. let offered = c.before.args.offered in
+    (λ c. rw c.in-1.is (above_byte c.args.code))
+    (λ c. let offered = c.args.offered in
     rw (ne_eqb offered 0 (λ e. omega arith), ne_eqb offered 1 (λ e. omega arith))))

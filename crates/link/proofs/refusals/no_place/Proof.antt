@@ -17,9 +17,9 @@ no_place_spec =
     (λ c κs. search rules)
     (λ c. λ l e.
     rw (
-      c.before.before.truth.ensures,
+      c.truth.ensures,
       c.is_full.ensures,
-      c.before.tx_in.ensures.0 l e,
+      c.tx_in.ensures.0 l e,
       e,
       truth_back l.marks.discarding,
     )))

@@ -18,16 +18,16 @@ choose_spec =
     (λ c κs. search rules)
     (λ c. search rules)
     (λ c κs. search rules)
-    (λ c l e g. rw (← c.before.before.state_in-state.ensures l e, c.in-ErrorReset.is))
-    (λ c l e g. rw (← c.before.before.state_in-state.ensures l e, c.in-ErrorWait.is))
-    (λ c l e g. rw (← c.before.before.state_in-state.ensures l e, c.in-Ready.is))
-    (λ c l e g. rw (← c.before.before.state_in-state.ensures l e, c.in-Started.is))
+    (λ c l e g. rw (← c.state_in-state.ensures l e, c.in-ErrorReset.is))
+    (λ c l e g. rw (← c.state_in-state.ensures l e, c.in-ErrorWait.is))
+    (λ c l e g. rw (← c.state_in-state.ensures l e, c.in-Ready.is))
+    (λ c l e g. rw (← c.state_in-state.ensures l e, c.in-Started.is))
     (λ c l e g.
     rw (
       c.fct_or_null.ensures,
-      c.before.grants_fct.ensures l e g,
-      ← c.before.before.before.before.state_in-state.ensures l e,
+      c.grants_fct.ensures l e g,
+      ← c.state_in-state.ensures l e,
       c.in-Connecting.is,
     ))
     (λ c l e g.
-    rw (c.choose_with.ensures l e g, ← c.before.before.before.state_in-state.ensures l e, c.in-Run.is)))
+    rw (c.choose_with.ensures l e g, ← c.state_in-state.ensures l e, c.in-Run.is)))

@@ -9,19 +9,18 @@ choose_in_run_spec =
     tie.close
     (tie.spec
     (λ c κs. search rules)
-    (λ c l e g. rw (← c.before.grants_fct.ensures l e g, c.if-grants_fct.true))
+    (λ c l e g. rw (← c.grants_fct.ensures l e g, c.if-grants_fct.true))
     (λ c κs. search rules)
     (λ c κs. search rules)
     (λ c κs. search rules)
     (λ c l e g.
     rw (
       c.look.ensures,
-      c.before.tx_in.ensures.0 l e,
-      ← c.before.before.before.before.before.grants_fct.ensures l e g,
-      c.before.before.before.before.if-grants_fct.false,
-      ← c.before.before.before.has_n_char.ensures l e g,
-      c.before.before.if-has_n_char.true,
+      c.tx_in.ensures.0 l e,
+      ← c.grants_fct.ensures l e g,
+      c.if-grants_fct.false,
+      ← c.has_n_char.ensures l e g,
+      c.if-has_n_char.true,
     ))
     (λ c l e g.
-    let b = c.before.before in
-    rw (← b.before.grants_fct.ensures l e g, b.if-grants_fct.false, ← c.before.has_n_char.ensures l e g, c.if-has_n_char.false)))
+    rw (← c.grants_fct.ensures l e g, c.if-grants_fct.false, ← c.has_n_char.ensures l e g, c.if-has_n_char.false)))

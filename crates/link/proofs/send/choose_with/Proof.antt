@@ -35,10 +35,10 @@ choose_with_spec =
     (λ c κs. search rules)
     (λ c κs. search rules)
     (λ c l e g.
-    let seen = c.before.before.before.truth.ensures in
-    let some : truth (offer_number l.offer) ≡ true = sym (seen ∙ rw e) ∙ c.before.before.if-truth.true in
+    let seen = c.truth.ensures in
+    let some : truth (offer_number l.offer) ≡ true = sym (seen ∙ rw e) ∙ c.if-truth.true in
     rw (c.byte.ensures, e) (waits _ _ l l.offer g.1 some))
     (λ c l e g.
-    let seen = c.before.before.truth.ensures in
-    let none : truth (offer_number l.offer) ≡ false = sym (seen ∙ rw e) ∙ c.before.if-truth.false in
+    let seen = c.truth.ensures in
+    let none : truth (offer_number l.offer) ≡ false = sym (seen ∙ rw e) ∙ c.if-truth.false in
     c.choose_in_run.ensures l e g ∙ none_waits _ _ l l.offer none))

@@ -19,7 +19,7 @@ fct_sent_spec =
     (λ c l e g.
     c.set_given.ensures l e
     ∙ rw (
-      c.before.eight_given_more.ensures,
-      c.before.before.before.given_in-given.ensures l e g,
+      c.eight_given_more.ensures,
+      c.given_in-given.ensures l e g,
       byte_back (l.credit.given.0 + 8) (omega (arith, given_small l g.0)),
     )))

@@ -15,7 +15,7 @@ grants_fct_spec =
     (λ c l e g.
     rw (
       c.may_grant.ensures,
-      c.before.before.given_in.ensures l e g,
-      c.before.free_places.ensures,
-      c.before.before.before.rx_in-store.ensures.0 l e,
+      c.given_in.ensures l e g,
+      c.free_places.ensures,
+      c.rx_in-store.ensures.0 l e,
     )))

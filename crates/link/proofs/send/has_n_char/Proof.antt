@@ -12,12 +12,12 @@ has_n_char_spec =
     (λ c κs. search rules)
     (λ c κs. search rules)
     (λ c κs. search rules)
-    (λ c l e g. rw (← c.before.before.held_in.ensures l e g, ← c.before.none_held.ensures, c.if-none_held.true))
+    (λ c l e g. rw (← c.held_in.ensures l e g, ← c.none_held.ensures, c.if-none_held.true))
     (λ c l e g.
     rw (
       c.is_empty.ensures,
-      c.before.tx_in.ensures.0 l e,
-      ← c.before.before.before.before.held_in.ensures l e g,
-      ← c.before.before.before.none_held.ensures,
-      c.before.before.if-none_held.false,
+      c.tx_in.ensures.0 l e,
+      ← c.held_in.ensures l e g,
+      ← c.none_held.ensures,
+      c.if-none_held.false,
     )))

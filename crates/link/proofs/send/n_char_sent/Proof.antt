@@ -24,20 +24,19 @@ n_char_sent_spec =
     (λ c κs. search rules)
     (λ c κs. search rules)
     (λ c small l e g.
-    let b = c.before.before.before.before.before.before in
-    let less : Link = with_held l b.before.before.before.one_held_less.result.0 in
-    let credit = b.before.before.set_held.ensures l e in
-    let store = b.tx_in-store.ensures in
-    let rest = c.before.before.before.before.drop_first.ensures in
-    let a = b.before.before.before.before.before.before.before.before.args in
+    let less : Link = with_held l c.one_held_less.result.0 in
+    let credit = c.set_held.ensures l e in
+    let store = c.tx_in-store.ensures in
+    let rest = c.drop_first.ensures in
+    let a = c.args in
     let fits = drop_fits a.tx.now _ small store.1 1 in
-    let written = c.before.before.before.set_tx.ensures (rw rest fits) less credit in
+    let written = c.set_tx.ensures (rw rest fits) less credit in
     rw (
       c.set_truth.ensures,
       written,
-      c.before.is_end.ensures,
+      c.is_end.ensures,
       rest,
       store.0 less credit,
-      b.before.before.before.one_held_less.ensures,
-      b.before.before.before.before.before.held_in-held.ensures l e g,
+      c.one_held_less.ensures,
+      c.held_in-held.ensures l e g,
     )))

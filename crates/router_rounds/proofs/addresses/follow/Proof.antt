@@ -21,15 +21,12 @@ follow_spec =
     (λ c κs. search rules)
     (λ c κs. search rules)
     (λ c.
-    let arm = c.before.before.before in
-    let a = arm.before.before.before.args in
-    c.mark.ensures (kept a.state.now a.area.now) _ ∙ rw (c.before.drop-front.ensures, arm.enum_told.given.1))
+    let a = c.args in
+    c.mark.ensures (kept a.state.now a.area.now) _ ∙ rw (c.drop_front.ensures, c.in-End.is))
     (λ c.
-    let arm = c.before.before.before.before in
-    let a = arm.before.before.before.args in
+    let a = c.args in
     let before = kept a.state.now a.area.now in
-    c.mark2.ensures before _ ∙ rw (c.before.count-error.ensures before, c.before.before.set-mode.ensures, arm.enum-told2.given.1))
+    c.mark-in-Nowhere.ensures before _ ∙ rw (c.count_error.ensures before, c.set_mode.ensures, c.in-Nowhere.is))
     (λ c.
-    let arm = c.before.before.before.before in
-    let a = arm.before.before.before.args in
-    c.mark3.ensures (kept a.state.now a.area.now) _ ∙ rw (c.before.wait.ensures, arm.h.given.1)))
+    let a = c.args in
+    c.mark-in-Ports.ensures (kept a.state.now a.area.now) _ ∙ rw (c.wait.ensures, c.in-Ports.is)))

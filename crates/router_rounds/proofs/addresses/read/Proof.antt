@@ -12,12 +12,10 @@ read_spec =
     tie.close
     (tie.spec
     (λ c κs. search rules)
-    (λ c. rw (← c.before.empty_at.ensures, c.if1.true))
+    (λ c. rw (← c.empty_at.ensures, c.if-empty_at.true))
     (λ c κs. search rules)
     (λ c κs. search rules)
     (λ c κs. search rules)
     (λ c.
-    let front = c.before.before.before in
-    let some = front.before.before in
     c.follow.ensures
-    ∙ rw (c.before.heading_of.ensures, front.front_at.ensures, ← some.before.empty_at.ensures, some.if1.false)))
+    ∙ rw (c.heading_of.ensures, c.front_at-n.ensures, ← c.empty_at.ensures, c.if-empty_at.false)))

@@ -13,27 +13,27 @@ use Rattle.router_rounds.proofs.CountLaws.{addresses_add}
 use Rattle.router_rounds.proofs.addresses.read_all.Statement.{statement}
 use Rattle.router_rounds.proofs.addresses.read_all.Tie as tie
 
-abbrev invariant-loop : tie.invariant-loop
-invariant-loop state₀ area table q₀ i₀ state q i =
+abbrev invariant-loop-i : tie.invariant-loop-i
+invariant-loop-i state₀ area table q₀ i₀ state q i =
     (i ≤ 11)
     × (q.errors ≤ q₀.errors + i)
     × (part1 in_words table (tally q₀ (kept state₀ area)) ≡ each (addresses in_words table) i (11 - i) (tally q (kept state area)))
 
-abbrev decreases-loop : tie.decreases-loop
-decreases-loop state₀ area table q₀ i₀ state q i = 11 - i
+abbrev decreases-loop-i : tie.decreases-loop-i
+decreases-loop-i state₀ area table q₀ i₀ state q i = 11 - i
 
-goes_on : tie.Need-loop-preserved invariant-loop decreases-loop
+goes_on : tie.Need-loop-i-preserved invariant-loop-i decreases-loop-i
 goes_on c =
-    let l = c.before.before.before.loop in
-    let a = c.before.before.before.before.before.args in
+    let l = c.loop-i in
+    let a = c.args in
     let t : Tally Words = tally l.q (kept l.state a.area.now) in
     let step = addresses in_words a.table.now in
-    let e = c.address.ensures in
+    let e = c.address-q.ensures in
     let same = ap (λ (u : Tally Words). u.errors) e in (
       omega arith,
       omega (arith, same, (addresses_add in_words a.table.now t l.i).errors),
       l.invariant.2
-          ∙ each_next step l.i 11 t c.before.before.loop-test.true
+          ∙ each_next step l.i 11 t c.loop-i-test.true
           ∙ ap (each step (l.i + 1) (11 - (l.i + 1))) (sym e),
     )
 
@@ -42,14 +42,14 @@ unfolding part1
 read_all_spec =
     tie.close
     (tie.spec
-    invariant-loop
-    decreases-loop
+    invariant-loop-i
+    decreases-loop-i
     (λ c. (omega arith, omega arith, refl))
     (λ c κs. omega arith)
     (λ c. omega arith)
     (λ c. omega arith)
     goes_on
-    (λ c. let l = c.before.loop in
-    let a = c.before.before.before.args in
+    (λ c. let l = c.loop-i in
+    let a = c.args in
     sym (l.invariant.2
-    ∙ each_done (addresses in_words a.table.now) l.i 11 (tally l.q (kept l.state a.area.now)) c.loop-test.false)))
+    ∙ each_done (addresses in_words a.table.now) l.i 11 (tally l.q (kept l.state a.area.now)) c.loop-i-test.false)))

@@ -12,5 +12,5 @@ wait_spec =
     (tie.spec
     (λ c κs. search rules)
     (λ c κs. search rules)
-    (λ c. rw (c.drop-front.ensures, c.before.before.before.set-mode.ensures, c.before.before.if1.true))
-    (λ c. rw (c.before.set-mode.ensures, c.if1.false)))
+    (λ c. rw (c.drop_front.ensures, c.set_mode.ensures, c.if-d.true))
+    (λ c. rw (c.set_mode.ensures, c.if-d.false)))

@@ -15,4 +15,4 @@ grant_spec =
     (λ c κs. search rules)
     (λ c κs. search rules)
     (λ c κs. search rules)
-    (λ c. λ area. c.mark.ensures (kept c.before.before.before.before.before.args.state.now area) _ ∙ rw (c.before.set-mode.ensures, c.before.before.before.set-output.ensures)))
+    (λ c. λ area. c.mark.ensures (kept c.args.state.now area) _ ∙ rw (c.set_mode.ensures, c.set_output.ensures)))

@@ -55,16 +55,16 @@ next_output o p t u h e g =
     ∙ ap (each (grants in_words) (o + 1) (11 - (o + 1))) g
     ∙ ap (λ (m : ℕ). each (grants in_words) (m + 1) (11 - (m + 1)) u) (sym e)
 
-abbrev invariant-loop : tie.invariant-loop
-invariant-loop state₀ q₀ o₀ last k₀ state q o k =
+abbrev invariant-loop-k : tie.invariant-loop-k
+invariant-loop-k state₀ q₀ o₀ last k₀ state q o k =
     (k ≤ 22)
     × (o ≡ o₀)
     × (q ≡ q₀)
     × (state ≡ state₀)
     × (among (router_of state₀) o₀ (drop k (candidates last)) ≡ among (router_of state₀) o₀ (candidates last))
 
-abbrev decreases-loop : tie.decreases-loop
-decreases-loop state₀ q₀ o₀ last k₀ state q o k = 22 - k
+abbrev decreases-loop-k : tie.decreases-loop-k
+decreases-loop-k state₀ q₀ o₀ last k₀ state q o k = 22 - k
 
 abbrev invariant-outputs : tie.invariant-outputs
 invariant-outputs state₀ q₀ o₀ state q o =
@@ -74,15 +74,15 @@ invariant-outputs state₀ q₀ o₀ state q o =
 abbrev decreases-outputs : tie.decreases-outputs
 decreases-outputs state₀ q₀ o₀ state q o = 11 - o
 
-owned : tie.Need-outputs-preserved invariant-loop decreases-loop invariant-outputs decreases-outputs
+owned : tie.Need-outputs-preserved-then-is_owned invariant-loop-k decreases-loop-k invariant-outputs decreases-outputs
 owned c =
-    let l = c.before.before.before.before.outputs in
+    let l = c.outputs in
     let r = router_of l.state in
-    let free = not-true (is_free (output_at r l.o).owner) (sym c.before.is-owned.ensures ∙ c.if1.true) in (
+    let free = not-true (is_free (output_at r l.o).owner) (sym c.is_owned.ensures ∙ c.if-is_owned.true) in (
       omega arith,
       λ area.
           let t = tally l.q (kept l.state area) in
-          l.invariant.1 area ∙ next_output l.o l.o t t c.before.before.before.outputs-test.true refl (keeps_owner t l.o free),
+          l.invariant.1 area ∙ next_output l.o l.o t t c.outputs-test.true refl (keeps_owner t l.o free),
     )
 
 -- the candidate in turn fits as `waits_for` says
@@ -90,72 +90,61 @@ fits_as : (s w : List ℕ) (o p last k i : ℕ) (b r : Bool) → w ≡ s → p �
     r ≡ waits_for p (candidate last k).high (mode_at (router_of w) i) → r ≡ b → fits_in (router_of s) o (candidate last k) ≡ b
 fits_as s w o p last k i b r d e f v h = rw (← d, ← e, ← f) (sym v ∙ h)
 
-fitting : tie.Need-outputs-preserved-2 invariant-loop decreases-loop invariant-outputs decreases-outputs
+fitting : tie.Need-outputs-preserved-then-waits_for invariant-loop-k decreases-loop-k invariant-outputs decreases-outputs
 fitting c =
-    let turn = c.before.before.before.before.before in
-    let test = turn.before in
-    let asked = test.before.before in
-    let tested = asked.before.before in
-    let output = tested.before.before.before in
-    let l = output.before.outputs in
-    let k = test.before.loop in
-    let last = asked.last-granted in
-    let i = turn.in_turn in
+    let l = c.outputs in
+    let k = c.loop-k in
+    let last = c.last_granted-last in
+    let i = c.in_turn-i in
     let r = router_of l.state in
-    let free = not-false (is_free (output_at r l.o).owner) (sym tested.before.is-owned.ensures ∙ tested.if1.false) in
+    let free = not-false (is_free (output_at r l.o).owner) (sym c.is_owned.ensures ∙ c.if-is_owned.false) in
     let fit = fits_as l.state k.state l.o k.o last.result k.k i.result true _ k.invariant.3 k.invariant.1 i.ensures
-    c.before.before.before.waits-for.ensures c.before.before.if2.true in
+    c.waits_for.ensures c.if-waits_for.true in
     let first : among r l.o (candidates (output_at r l.o).last) ≡ input i.result =
     ap (λ (m : ℕ). among r l.o (candidates m)) (sym last.ensures)
     ∙ sym k.invariant.4
-    ∙ finds (fits_in r l.o) last.result k.k test.loop-test.true fit
+    ∙ finds (fits_in r l.o) last.result k.k c.loop-k-test.true fit
     ∙ ap input (sym i.ensures) in (
       omega arith,
       λ area.
           let t = tally l.q (kept l.state area) in
           l.invariant.1 area
-          ∙ next_output l.o k.o t _ output.outputs-test.true k.invariant.1
+          ∙ next_output l.o k.o t _ c.outputs-test.true k.invariant.1
           (takes t l.o free i.result first
-          ∙ sym (c.grant.ensures area ∙ rw (k.invariant.1, k.invariant.2, k.invariant.3))),
+          ∙ sym (c.grant-q.ensures area ∙ rw (k.invariant.1, k.invariant.2, k.invariant.3))),
     )
 
-passing : tie.Need-loop-preserved invariant-loop decreases-loop invariant-outputs decreases-outputs
+passing : tie.Need-loop-k-preserved invariant-loop-k decreases-loop-k invariant-outputs decreases-outputs
 passing c =
-    let turn = c.before.before.before in
-    let test = turn.before in
-    let asked = test.before.before in
-    let output = asked.before.before.before.before.before in
-    let l = output.before.outputs in
-    let k = test.before.loop in
-    let last = asked.last-granted in
-    let i = turn.in_turn in
+    let l = c.outputs in
+    let k = c.loop-k in
+    let last = c.last_granted-last in
+    let i = c.in_turn-i in
     let unfit = fits_as l.state k.state l.o k.o last.result k.k i.result false _ k.invariant.3 k.invariant.1 i.ensures
-    c.before.waits-for.ensures c.if2.false in (
+    c.waits_for.ensures c.if-waits_for.false in (
       omega arith,
       k.invariant.1,
       k.invariant.2,
       k.invariant.3,
-      sym (passes (fits_in (router_of l.state) l.o) last.result k.k test.loop-test.true unfit) ∙ k.invariant.4,
+      sym (passes (fits_in (router_of l.state) l.o) last.result k.k c.loop-k-test.true unfit) ∙ k.invariant.4,
     )
 
-unfitting : tie.Need-outputs-preserved-3 invariant-loop decreases-loop invariant-outputs decreases-outputs
+unfitting : tie.Need-outputs-preserved invariant-loop-k decreases-loop-k invariant-outputs decreases-outputs
 unfitting c =
-    let tested = c.before.before.before.before in
-    let output = tested.before.before.before in
-    let l = output.before.outputs in
-    let k = c.before.loop in
-    let last = c.before.before.last-granted in
+    let l = c.outputs in
+    let k = c.loop-k in
+    let last = c.last_granted-last in
     let r = router_of l.state in
-    let free = not-false (is_free (output_at r l.o).owner) (sym tested.before.is-owned.ensures ∙ tested.if1.false) in
+    let free = not-false (is_free (output_at r l.o).owner) (sym c.is_owned.ensures ∙ c.if-is_owned.false) in
     let none : among r l.o (candidates (output_at r l.o).last) ≡ nobody =
     ap (λ (m : ℕ). among r l.o (candidates m)) (sym last.ensures)
     ∙ sym k.invariant.4
-    ∙ runs_out (fits_in r l.o) last.result k.k c.loop-test.false in (
+    ∙ runs_out (fits_in r l.o) last.result k.k c.loop-k-test.false in (
       omega arith,
       λ area.
           let t = tally l.q (kept l.state area) in
           l.invariant.1 area
-          ∙ next_output l.o k.o t (tally k.q (kept k.state area)) output.outputs-test.true k.invariant.1
+          ∙ next_output l.o k.o t (tally k.q (kept k.state area)) c.outputs-test.true k.invariant.1
           (takes_nobody t l.o free none ∙ rw (k.invariant.2, k.invariant.3)),
     )
 
@@ -164,8 +153,8 @@ unfolding part2
 grant_all_spec =
     tie.close
     (tie.spec
-    invariant-loop
-    decreases-loop
+    invariant-loop-k
+    decreases-loop-k
     invariant-outputs
     decreases-outputs
     (λ c. (omega arith, λ area. refl))
@@ -188,5 +177,5 @@ grant_all_spec =
     (λ c. omega arith)
     (λ c. omega arith)
     unfitting
-    (λ c. let l = c.before.outputs in
+    (λ c. let l = c.outputs in
     λ area. sym (l.invariant.1 area ∙ each_done (grants in_words) l.o 11 (tally l.q (kept l.state area)) c.outputs-test.false)))

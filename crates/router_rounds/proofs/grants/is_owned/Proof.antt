@@ -11,5 +11,5 @@ is_owned_spec =
     (λ c κs. search rules)
     (λ c. search rules)
     (λ c. search rules)
-    (λ c. rw (← c.before.before.output_at.ensures, c.enum_told.given.1))
-    (λ c. rw (← c.before.before.output_at.ensures, c.enum-told2.given.1)))
+    (λ c. rw (← c.output_at-out.ensures, c.in-Free.is))
+    (λ c. rw (← c.output_at-out.ensures, c.in-By.is)))

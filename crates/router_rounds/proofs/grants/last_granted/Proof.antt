@@ -9,4 +9,4 @@ last_granted_spec =
     tie.close
     (tie.spec
     (λ c κs. search rules)
-    (λ c. rw c.output_at.ensures))
+    (λ c. rw c.output_at-out.ensures))

@@ -11,7 +11,7 @@ waits_so_spec =
     (tie.spec
     (λ c κs. search rules)
     (λ c κs. search rules)
-    (λ c. c.wanted.ensures ∙ sym (rw (c.before.before.if1.true, c.before.if2.true)))
+    (λ c. c.wanted.ensures ∙ sym (rw (c.if-w.true, c.if-high.true)))
     (λ c. search rules)
     (λ c. search rules)
-    (λ c. c.wanted2.ensures ∙ sym (rw (c.before.before.if1.false, c.before.if3.false))))
+    (λ c. c.wanted-else-high-2.ensures ∙ sym (rw (c.if-w.false, c.if-high-2.false))))

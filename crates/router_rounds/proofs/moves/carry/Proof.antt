@@ -21,9 +21,7 @@ carry_spec =
     (λ c κs. search rules)
     (λ c κs. search rules)
     (λ c. search rules)
-    (λ c. let put = c.before.before.before.before.before.before in
-    let read = put.before.before.before in
-    let start = read.before.before.before in
-    let a = start.args in
-    let kept = behind_keeps a.state.now a.i (11 + a.o) (omega (arith, start.requires)) (omega (arith, start.requires)) a.area.now a.n in
-    rw (c.set-store.ensures, c.before.drop_of.ensures, put.append.ensures.0, put.append.ensures.1, read.store_at.ensures, store_picked, kept)))
+    (λ c.
+    let a = c.args in
+    let kept = behind_keeps a.state.now a.i (11 + a.o) (omega (arith, c.requires)) (omega (arith, c.requires)) a.area.now a.n in
+    rw (c.set_store.ensures, c.drop_of.ensures, c.append.ensures.0, c.append.ensures.1, c.store_at-st.ensures, store_picked, kept)))

@@ -13,4 +13,4 @@ free_both_spec =
     (λ c κs. search rules)
     (λ c κs. search rules)
     (λ c κs. search rules)
-    (λ c. λ area. rw (c.set-mode.ensures, c.before.before.set-output.ensures, c.before.before.before.before.output_at.ensures)))
+    (λ c. λ area. rw (c.set_mode.ensures, c.set_output.ensures, c.output_at-out.ensures)))

@@ -14,20 +14,17 @@ unfolding moves_one
 move_one_spec =
     tie.close
     (tie.spec
-    (λ c. rw (le-ltb (11 + c.before.before.args.o) 22 (omega arith)))
+    (λ c. rw (le-ltb (11 + c.args.o) 22 (omega arith)))
     (λ c. search rules)
     (λ c κs. search rules)
     (λ c. search rules)
-    (λ c. rw (← c.before.full_at.ensures, c.if2.true))
+    (λ c. rw (← c.full_at.ensures, c.if-full_at.true))
     (λ c κs. search rules)
     (λ c. search rules)
-    (λ c. rw (← c.before.before.before.before.full_at.ensures, c.before.before.before.if2.false, ← c.before.empty_at.ensures, c.if3.true))
+    (λ c. rw (← c.full_at.ensures, c.if-full_at.false, ← c.empty_at.ensures, c.if-empty_at.true))
     (λ c κs. search rules)
     (λ c κs. search rules)
     (λ c. search rules)
     (λ c.
-    let front = c.before.before.before.before.before in
-    let some = front.before.before.before in
-    let room = some.before.before.before in
-    c.before.before.moved.ensures
-    ∙ rw (front.front_at.ensures, ← room.before.full_at.ensures, room.if2.false, ← some.before.empty_at.ensures, some.if3.false)))
+    c.moved.ensures
+    ∙ rw (c.front_at-n.ensures, ← c.full_at.ensures, c.if-full_at.false, ← c.empty_at.ensures, c.if-empty_at.false)))

@@ -20,24 +20,19 @@ moved_spec =
     (λ c κs. search rules)
     (λ c. search rules)
     (λ c.
-    let test = c.before.before.before in
-    let counted = test.before.before in
-    let carried = counted.before.before.before in
-    let a = carried.before.before.before.before.args in
+    let a = c.args in
     let before = kept a.state.now a.area.now in
     c.mark.ensures before _
     ∙ rw (
-      c.before.free-both.ensures carried.carry.new.1.0,
-      carried.carry.ensures,
-      counted.count-moved.ensures before,
-      ← test.before.is_end.ensures,
-      test.if1.true,
+      c.free_both.ensures c.carry.new.area,
+      c.carry.ensures,
+      c.count_moved-counted.ensures before,
+      ← c.is_end.ensures,
+      c.if-is_end.true,
     ))
     (λ c. search rules)
     (λ c.
-    let counted = c.before.before.before in
-    let carried = counted.before.before.before in
-    let a = carried.before.before.before.before.args in
+    let a = c.args in
     let before = kept a.state.now a.area.now in
-    c.mark2.ensures before _
-    ∙ rw (carried.carry.ensures, counted.count-moved.ensures before, ← c.before.before.is_end.ensures, c.before.if1.false)))
+    c.mark-else-is_end.ensures before _
+    ∙ rw (c.carry.ensures, c.count_moved-counted.ensures before, ← c.is_end.ensures, c.if-is_end.false)))

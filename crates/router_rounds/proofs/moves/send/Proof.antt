@@ -18,12 +18,10 @@ send_spec =
     (λ c κs. search rules)
     (λ c. search rules)
     (λ c κs. search rules)
-    (λ c. rw (← c.before.before.mode_at.ensures, c.enum_told.given.1))
-    (λ c. rw (← c.before.before.mode_at.ensures, c.enum-told2.given.1))
+    (λ c. rw (← c.mode_at-m.ensures, c.in-Idle.is))
+    (λ c. rw (← c.mode_at-m.ensures, c.in-Waiting.is))
     (λ c. search rules)
     (λ c.
-    let moved = c.before.before in
-    let arm = moved.before.before.before.before in
-    moved.move-one.ensures ∙ rw (← arm.before.before.mode_at.ensures, arm.m.given.1))
+    c.move_one.ensures ∙ rw (← c.mode_at-m.ensures, c.in-Routed.is))
     (λ c. search rules)
-    (λ c. c.spill-one.ensures ∙ rw (← c.before.before.before.before.before.mode_at.ensures, c.before.before.before.enum-told3.given.1)))
+    (λ c. c.spill_one.ensures ∙ rw (← c.mode_at-m.ensures, c.in-Spilling.is)))

@@ -13,5 +13,5 @@ spill_spec =
     (λ c κs. search rules)
     (λ c κs. search rules)
     (λ c κs. search rules)
-    (λ c. rw (c.set-mode.ensures, c.before.before.before.before.drop-front.ensures, ← c.before.before.before.is_end.ensures, c.before.before.if1.true))
-    (λ c. rw (c.before.before.drop-front.ensures, ← c.before.is_end.ensures, c.if1.false)))
+    (λ c. rw (c.set_mode.ensures, c.drop_front.ensures, ← c.is_end.ensures, c.if-is_end.true))
+    (λ c. rw (c.drop_front.ensures, ← c.is_end.ensures, c.if-is_end.false)))

@@ -13,13 +13,11 @@ spill_one_spec =
     tie.close
     (tie.spec
     (λ c κs. search rules)
-    (λ c. rw (← c.before.empty_at.ensures, c.if1.true))
+    (λ c. rw (← c.empty_at.ensures, c.if-empty_at.true))
     (λ c κs. search rules)
     (λ c κs. search rules)
     (λ c κs. search rules)
     (λ c.
-    let front = c.before.before.before in
-    let some = front.before.before in
-    let a = some.before.before.before.before.args in
+    let a = c.args in
     c.mark.ensures (kept a.state.now a.area.now) _
-    ∙ rw (c.before.spill.ensures, front.front_at.ensures, ← some.before.empty_at.ensures, some.if1.false)))
+    ∙ rw (c.spill.ensures, c.front_at-n.ensures, ← c.empty_at.ensures, c.if-empty_at.false)))

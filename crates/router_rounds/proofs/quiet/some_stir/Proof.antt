@@ -12,33 +12,33 @@ use Rattle.router_rounds.proofs.GrantLaws.{stirs_at}
 use Rattle.router_rounds.proofs.quiet.some_stir.Statement.{statement}
 use Rattle.router_rounds.proofs.quiet.some_stir.Tie as tie
 
-abbrev invariant-loop : tie.invariant-loop
-invariant-loop state stir₀ i₀ stir i = (i ≤ 11) × (any (stirs_at state) 0 11 ≡ (stir || any (stirs_at state) i (11 - i)))
+abbrev invariant-loop-i : tie.invariant-loop-i
+invariant-loop-i state stir₀ i₀ stir i = (i ≤ 11) × (any (stirs_at state) 0 11 ≡ (stir || any (stirs_at state) i (11 - i)))
 
-abbrev decreases-loop : tie.decreases-loop
-decreases-loop state stir₀ i₀ stir i = 11 - i
+abbrev decreases-loop-i : tie.decreases-loop-i
+decreases-loop-i state stir₀ i₀ stir i = 11 - i
 
 pub some_stir_spec : {M : Type 1} → statement M
 some_stir_spec =
     tie.close
     (tie.spec
-    invariant-loop
-    decreases-loop
+    invariant-loop-i
+    decreases-loop-i
     (λ c. (omega arith, refl))
     (λ c κs. search rules)
     (λ c. omega arith)
     (λ c. omega arith)
     (λ c.
-    let l = c.before.before.loop in
-    let s = c.before.before.before.args.state.now in (
+    let l = c.loop-i in
+    let s = c.args.state.now in (
       omega arith,
       l.invariant.1
           ∙ ap (λ (b : Bool). l.stir || b)
-          (any_next (stirs_at s) l.i 11 c.before.loop-test.true
-          ∙ ap (λ (b : Bool). b || any (stirs_at s) (l.i + 1) (11 - (l.i + 1))) (sym c.stirs.ensures))
+          (any_next (stirs_at s) l.i 11 c.loop-i-test.true
+          ∙ ap (λ (b : Bool). b || any (stirs_at s) (l.i + 1) (11 - (l.i + 1))) (sym c.stirs-stir.ensures))
           ∙ or_joins l.stir _ _,
     ))
     (λ c.
-    let l = c.before.loop in
-    sym (l.invariant.1 ∙ ap (λ (b : Bool). l.stir || b) (any_done (stirs_at c.before.before.args.state.now) l.i 11 c.loop-test.false)
+    let l = c.loop-i in
+    sym (l.invariant.1 ∙ ap (λ (b : Bool). l.stir || b) (any_done (stirs_at c.args.state.now) l.i 11 c.loop-i-test.false)
     ∙ or_false l.stir)))

@@ -27,8 +27,6 @@ stirs_spec =
     (λ c κs. search rules)
     (λ c κs. search rules)
     (λ c.
-    let none = c.before in
-    let idle = none.before in
-    let s = router_of idle.before.args.state.now in
-    let i = idle.before.args.i in
-    rw (c.is_waiting.ensures, none.empty_at.ensures, idle.is_idle.ensures) (sym (apart (mode_at s i) (empty (store_at s i))))))
+    let s = router_of c.args.state.now in
+    let i = c.args.i in
+    rw (c.is_waiting.ensures, c.empty_at-none.ensures, c.is_idle-idle.ensures) (sym (apart (mode_at s i) (empty (store_at s i))))))
