@@ -1,6 +1,7 @@
 // The router (01, The router): put, take, run, the rows of its table, and what is still held through a port, on the
 // words that keep it. A refused call leaves words, area and table as they were, and answers zeros in `out`.
 #![tactic(auto)]
+
 ghost use Rattle.std.specs.Prelude.{◌≡◌, [], ◌∷◌};
 ghost use Rattle.store.specs.Ring.{empty};
 ghost use Rattle.router_ports.specs.Ports.{fresh_router, store_at, output_store};

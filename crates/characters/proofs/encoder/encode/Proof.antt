@@ -14,12 +14,12 @@ encode_spec =
     (tie.spec
     (λ c κs. search rules)
     (λ c. search rules)
-    (λ c κs. let tested = c.before.before.before in
-    small_word _ (sym tested.before.good2.ensures ∙ tested.if-good.true))
+    (λ c κs.
+    small_word _ (sym c.good.ensures ∙ c.if-good.true))
     (λ c κs. search rules)
-    (λ c. let tested = c.before.before.before.before in
-    let good = sym tested.before.good2.ensures ∙ tested.if-good.true in
-    c.token.ensures (encoder_of tested.before.before.before.before.args.words.now) (odd_word _ good)
+    (λ c.
+    let good = sym c.good.ensures ∙ c.if-good.true in
+    c.token.ensures (encoder_of c.args.words.now) (odd_word _ good)
     (own_word _ good) ∙ sym (rw good))
-    (λ c. let tested = c.before.before in
-    rw (sym tested.before.good2.ensures ∙ tested.if-good.false, c.refused.ensures.0, c.refused.ensures.1)))
+    (λ c.
+    rw (sym c.good.ensures ∙ c.if-good.false, c.refused.ensures.0, c.refused.ensures.1)))
