@@ -45,7 +45,7 @@ encoded_wires : (e : Encoder) (ts : List Token) → AreTokens ts → encoded e t
 unfolding encoded wires sent
 encoded_wires e [] h = refl
 encoded_wires e (t ∷ ts) h =
-    rw (token_sent e t h.0, bits_number (wire_of e.odd t), encoded_wires _ ts h.1, ← last_of_any e.odd t)
+    rw (token_sent e t h.0, bits_number (wire_of e.odd t), encoded_wires (sent e t).encoder ts h.1, ← last_of_any e.odd t)
 
 parity_good : (previous flag : Bool) → good_parity previous (parity_bit previous flag) flag ≡ true
 parity_good true true = refl

@@ -13,4 +13,4 @@ held_refusal_spec =
     (λ c κs. search rules)
     (λ c κs. search rules)
     (λ c κs. search rules)
-    (λ c. c.refuse2.ensures ∙ rw (c.before.bad_state.ensures, c.before.before.refuse.ensures) (state_first_lem c.before.before.before.args.words.now _)))
+    (λ c. c.refuse.ensures ∙ rw (c.bad_state.ensures, c.refuse-number.ensures) (state_first_lem c.args.words.now _)))

@@ -14,6 +14,5 @@ lent_refusal_spec =
     (λ c κs. search rules)
     (λ c κs. search rules)
     (λ c.
-    let sized = c.before.before in
     c.refuse.ensures
-    ∙ rw (c.before.bad_state.ensures, sized.sized-refusal.ensures) (state_first_lem sized.before.before.args.words.now _)))
+    ∙ rw (c.bad_state.ensures, c.sized_refusal-sized.ensures) (state_first_lem c.args.words.now _)))

@@ -16,4 +16,4 @@ nothing_out_spec =
     (λ c. search rules)
     (λ c κs. search rules)
     (λ c. search rules)
-    (λ c. rw (le-ltb (11 + c.before.args.port) 22 (omega arith))))
+    (λ c. rw (le-ltb (11 + c.args.port) 22 (omega arith))))

@@ -22,24 +22,18 @@ put_spec =
     (λ c. search rules)
     (λ c. search rules)
     (λ c.
-    let put = c.before.before in
-    let tested = put.before.before.before in
-    let number = tested.before in
-    let n = number.before.before.before in
-    let a = n.before.before.before.args in
+    let a = c.args in
     let words = a.words.now in
     let area = a.area.now in
-    let p = n.before.wide in
-    let passed = router_first _ _ (sym number.put-refusal.ensures ∙ tested.if1.true) in
+    let p = c.wide-p in
+    let passed = router_first _ _ (sym c.put_refusal-number.ensures ∙ c.if-number-eq0.true) in
     let below = port_below (machine (router_of words) area) p.result _ passed.1 in
-    rw (put.append.ensures.0, put.append.ensures.1)
-    (put_in_words words area passed.0 p.result n.fitted.result below passed.1
-    ∙ sym (rw (passed.0, ← p.ensures, ← n.fitted.ensures))))
+    rw (c.append.ensures.0, c.append.ensures.1)
+    (put_in_words words area passed.0 p.result c.fitted-n.result below passed.1
+    ∙ sym (rw (passed.0, ← p.ensures, ← c.fitted-n.ensures))))
     (λ c. search rules)
     (λ c.
-    let number = c.before in
-    let n = number.before.before.before in
-    let a = n.before.before.before.args in
-    let p = n.before.wide in
-    put_refused_lem a.words.now a.area.now number.put-refusal.result c.if1.false p.result n.fitted.result number.put-refusal.ensures
-    ∙ sym (rw (← p.ensures, ← n.fitted.ensures))))
+    let a = c.args in
+    let p = c.wide-p in
+    put_refused_lem a.words.now a.area.now c.put_refusal-number.result c.if-number-eq0.false p.result c.fitted-n.result c.put_refusal-number.ensures
+    ∙ sym (rw (← p.ensures, ← c.fitted-n.ensures))))

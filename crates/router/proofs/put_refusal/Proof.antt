@@ -16,6 +16,5 @@ put_refusal_spec =
     (λ c κs. search rules)
     (λ c κs. search rules)
     (λ c.
-    let char = c.before.before.before in
-    c.lent-refusal.ensures
-    ∙ rw (c.before.refuse3.ensures, c.before.before.refuse2.ensures, char.above_eep.ensures, char.before.refuse.ensures, char.before.before.full_at.ensures)))
+    c.lent_refusal.ensures
+    ∙ rw (c.refuse-number.ensures, c.refuse-char.ensures, c.above_eep.ensures, c.refuse-full.ensures, c.full_at.ensures)))

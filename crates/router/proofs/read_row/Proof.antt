@@ -24,15 +24,14 @@ read_row_spec =
     (λ c κs. search rules)
     (λ c. search rules)
     (λ c.
-    let read = c.before.read in
-    let tested = c.before.before in
-    let row = tested.before.before.wide in
-    let words = tested.before.before.before.args.words.now in
-    let passed = router_first (is_router words) (row_refusal (router_of words) row.result) (sym tested.before.row-refusal.ensures ∙ tested.if1.true) in
+    let read = c.read in
+    let row = c.wide-k in
+    let words = c.args.words.now in
+    let passed = router_first (is_router words) (row_refusal (router_of words) row.result) (sym c.row_refusal-number.ensures ∙ c.if-number-eq0.true) in
     (rw (passed.0, ← row.ensures, eq-eqb (row_refusal (router_of words) row.result) 0 passed.1), rw (read.ensures, passed.0, ← row.ensures, eq-eqb (row_refusal (router_of words) row.result) 0 passed.1)))
     (λ c.
-    let number = c.before.before.row-refusal in
-    let row = c.before.before.before.wide in
-    let a = c.before.before.before.before.args in
-    let told = row_refused_lem a.words.now number.result c.before.if1.false a.table.now a.row (number.ensures ∙ rw row.ensures) in
+    let number = c.row_refusal-number in
+    let row = c.wide-k in
+    let a = c.args in
+    let told = row_refused_lem a.words.now number.result c.if-number-eq0.false a.table.now a.row (number.ensures ∙ rw row.ensures) in
     (ap (λ (r : RowRead). r.refusal) told, ap (λ (r : RowRead). r.value ∷ []) told)))

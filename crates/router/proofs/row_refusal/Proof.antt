@@ -15,5 +15,5 @@ row_refusal_spec =
     (λ c κs. search rules)
     (λ c κs. search rules)
     (λ c.
-    c.refuse2.ensures
-    ∙ rw (c.before.bad_state.ensures, c.before.before.refuse.ensures, c.before.before.before.outside_rows.ensures) (state_first_lem c.before.before.before.before.args.words.now _)))
+    c.refuse.ensures
+    ∙ rw (c.bad_state.ensures, c.refuse-number.ensures, c.outside_rows.ensures) (state_first_lem c.args.words.now _)))

@@ -22,20 +22,13 @@ run_spec =
     (λ c. search rules)
     (λ c. search rules)
     (λ c.
-    let told = c.before.before.before.before in
-    let ran = told.before.before in
-    let tested = ran.before.before.before in
-    let number = tested.before in
-    let most = number.before.before.before in
-    let a = most.before.before.args in
-    let passed = router_first _ _ (sym number.run-refusal.ensures ∙ tested.if1.true) in
-    ap left_of ran.run-in-place.ensures.0
-    ∙ ran_in_words a.words.now a.area.now passed.0 a.table.now most.fitted.result passed.1
-    ∙ sym (rw (passed.0, ← most.fitted.ensures)))
+    let a = c.args in
+    let passed = router_first _ _ (sym c.run_refusal-number.ensures ∙ c.if-number-eq0.true) in
+    ap left_of c.run_in_place-c.ensures.0
+    ∙ ran_in_words a.words.now a.area.now passed.0 a.table.now c.fitted-most.result passed.1
+    ∙ sym (rw (passed.0, ← c.fitted-most.ensures)))
     (λ c. search rules)
     (λ c.
-    let number = c.before.before in
-    let most = number.before.before.before in
-    let a = most.before.before.args in
-    run_refused a.words.now a.area.now number.run-refusal.result c.before.if1.false a.table.now most.fitted.result number.run-refusal.ensures
-    ∙ sym (rw (← most.fitted.ensures))))
+    let a = c.args in
+    run_refused a.words.now a.area.now c.run_refusal-number.result c.if-number-eq0.false a.table.now c.fitted-most.result c.run_refusal-number.ensures
+    ∙ sym (rw (← c.fitted-most.ensures))))

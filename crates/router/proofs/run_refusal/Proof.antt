@@ -11,4 +11,4 @@ run_refusal_spec =
     (tie.spec
     (λ c κs. search rules)
     (λ c κs. search rules)
-    (λ c. c.lent-refusal.ensures ∙ rw c.before.refuse.ensures))
+    (λ c. c.lent_refusal.ensures ∙ rw c.refuse-number.ensures))

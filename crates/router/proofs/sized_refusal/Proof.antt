@@ -24,17 +24,15 @@ sized_refusal_spec =
     (λ c κs. search rules)
     (λ c κs. search rules)
     (λ c κs. search rules)
-    (λ c. rw (← c.before.bad_area.ensures, c.if1.true))
+    (λ c. rw (← c.bad_area.ensures, c.if-bad_area.true))
     (λ c.
-    let size = c.before.before in
-    let tested = size.before in
-    let a = tested.before.before.before.args in
-    let good = sym tested.before.bad_area.ensures ∙ tested.if1.false in
+    let a = c.args in
+    let good = sym c.bad_area.ensures ∙ c.if-bad_area.false in
     let small : size_in a.area.now < 2 ^ 32 = omega (arith, size_small a.area.now good) in
-    let same : size.narrow.result ≡ size_in a.area.now = size.narrow.ensures ∙ mod-eq_of_lt small in
+    let same : c.narrow-size.result ≡ size_in a.area.now = c.narrow-size.ensures ∙ mod-eq_of_lt small in
     c.refuse.ensures
     ∙ rw (
-      c.before.bad_stores.ensures
+      c.bad_stores.ensures
           ∙ ap (λ (n : ℕ). any (λ (k : ℕ). bad_store n (store_at (router_of a.words.now) k)) 0 22) same,
       good,
     )))

@@ -20,18 +20,17 @@ still_held_spec =
     (λ c κs. search rules)
     (λ c κs. search rules)
     (λ c κs.
-    let s = router_of c.before.before.before.args.words.now in
-    let passed = router_first (is_router c.before.before.before.args.words.now) (held_refusal s c.before.before.wide.result) (sym c.before.held-refusal.ensures ∙ c.if1.true) in
-    held_accepts s c.before.before.wide.result passed.1)
+    let s = router_of c.args.words.now in
+    let passed = router_first (is_router c.args.words.now) (held_refusal s c.wide-p.result) (sym c.held_refusal-number.ensures ∙ c.if-number-eq0.true) in
+    held_accepts s c.wide-p.result passed.1)
     (λ c. search rules)
     (λ c.
-    let tested = c.before in
-    let port = tested.before.before.wide in
-    let words = tested.before.before.before.args.words.now in
-    let passed = router_first (is_router words) (held_refusal (router_of words) port.result) (sym tested.before.held-refusal.ensures ∙ tested.if1.true) in
+    let port = c.wide-p in
+    let words = c.args.words.now in
+    let passed = router_first (is_router words) (held_refusal (router_of words) port.result) (sym c.held_refusal-number.ensures ∙ c.if-number-eq0.true) in
     rw (c.through.ensures, passed.0, ← port.ensures, eq-eqb (held_refusal (router_of words) port.result) 0 passed.1))
     (λ c.
-    let number = c.before.before.held-refusal in
-    let port = c.before.before.before.wide in
-    let a = c.before.before.before.before.args in
-    held_refused_lem a.words.now number.result c.before.if1.false a.port (number.ensures ∙ rw port.ensures)))
+    let number = c.held_refusal-number in
+    let port = c.wide-p in
+    let a = c.args in
+    held_refused_lem a.words.now number.result c.if-number-eq0.false a.port (number.ensures ∙ rw port.ensures)))

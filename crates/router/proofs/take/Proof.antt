@@ -24,21 +24,16 @@ take_spec =
     (λ c κs. search rules)
     (λ c. search rules)
     (λ c.
-    let dropped = c.before in
-    let front = dropped.before.before in
-    let tested = front.before.before in
-    let number = tested.before in
-    let p = number.before.before.wide in
-    let a = number.before.before.before.before.args in
+    let p = c.wide-p in
+    let a = c.args in
     let words = a.words.now in
     let area = a.area.now in
-    let passed = router_first _ _ (sym number.take-refusal.ensures ∙ tested.if1.true) in
+    let passed = router_first _ _ (sym c.take_refusal-number.ensures ∙ c.if-number-eq0.true) in
     let below = port_below (machine (router_of words) area) p.result _ passed.1 in
-    rw (dropped.drop-front.ensures, front.front_at.ensures)
+    rw (c.drop_front.ensures, c.front_at-taken.ensures)
     (take_in_words words area passed.0 p.result below passed.1 ∙ sym (rw (passed.0, ← p.ensures))))
     (λ c.
-    let number = c.before.before in
-    let p = number.before.before.wide in
-    let a = number.before.before.before.before.args in
-    take_refused_lem a.words.now a.area.now number.take-refusal.result c.before.if1.false p.result number.take-refusal.ensures
+    let p = c.wide-p in
+    let a = c.args in
+    take_refused_lem a.words.now a.area.now c.take_refusal-number.result c.if-number-eq0.false p.result c.take_refusal-number.ensures
     ∙ sym (rw (← p.ensures))))

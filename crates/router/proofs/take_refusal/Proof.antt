@@ -14,5 +14,5 @@ take_refusal_spec =
     (λ c κs. search rules)
     (λ c κs. search rules)
     (λ c.
-    c.lent-refusal.ensures
-    ∙ rw (c.before.refuse2.ensures, c.before.before.refuse.ensures, c.before.before.before.nothing-out.ensures)))
+    c.lent_refusal.ensures
+    ∙ rw (c.refuse-number.ensures, c.refuse-none.ensures, c.nothing_out.ensures)))

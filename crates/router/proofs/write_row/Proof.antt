@@ -22,15 +22,14 @@ write_row_spec =
     (λ c κs. search rules)
     (λ c. search rules)
     (λ c.
-    let tested = c.before.before in
-    let number = tested.before.row-refusal in
-    let row = tested.before.before.wide in
-    let words = tested.before.before.before.args.words.now in
-    let passed = router_first (is_router words) (row_refusal (router_of words) row.result) (sym number.ensures ∙ tested.if1.true) in
-    (sym tested.if1.true ∙ number.ensures ∙ rw row.ensures, c.write.ensures ∙ sym (rw (passed.0, ← row.ensures, eq-eqb (row_refusal (router_of words) row.result) 0 passed.1))))
+    let number = c.row_refusal-number in
+    let row = c.wide-k in
+    let words = c.args.words.now in
+    let passed = router_first (is_router words) (row_refusal (router_of words) row.result) (sym number.ensures ∙ c.if-number-eq0.true) in
+    (sym c.if-number-eq0.true ∙ number.ensures ∙ rw row.ensures, c.write.ensures ∙ sym (rw (passed.0, ← row.ensures, eq-eqb (row_refusal (router_of words) row.result) 0 passed.1))))
     (λ c.
-    let number = c.before.row-refusal in
-    let row = c.before.before.wide in
-    let a = c.before.before.before.args in
+    let number = c.row_refusal-number in
+    let row = c.wide-k in
+    let a = c.args in
     let told = number.ensures ∙ rw row.ensures in
-    (told, sym (table_stays a.words.now a.table.now a.row a.value (λ none. c.if1.false (told ∙ none))))))
+    (told, sym (table_stays a.words.now a.table.now a.row a.value (λ none. c.if-number-eq0.false (told ∙ none))))))

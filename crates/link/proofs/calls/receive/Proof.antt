@@ -128,7 +128,7 @@ receive_spec =
     (rw (link, clock, record_said, early, sizes_said, stores_said, char_said)) in
     let heard = rw (c.time_in.ensures passed.4, c.token_of-token.ensures) at (c.token-heard.ensures passed.1 l own passed.0.good) in
     let effect = token_effect (length a.rx.now) l (time_of a.time.now) (token_of a.kind a.value) in
-    let long : length c.token-heard.new.1.0 ≡ length a.rx.now = c.token-heard.auto.1.0 in
+    let long : length c.token-heard.new.rx ≡ length a.rx.now = c.token-heard.auto.rx in
     let left = c.settle-discarded.ensures (rw long passed.1) passed.2 effect.link heard.1 in
     rw (left.0, left.1, left.2, c.set_time.ensures, c.truth_word-tick.ensures, heard.0, heard.2)
     (sym (receive_accepted a.words.now a.rx.now a.tx.now a.time.now a.kind a.value link clock passed.0.passes effect refl

@@ -36,27 +36,27 @@ discard_rest_spec =
           ⊎_elim
           (λ w.
           rw (
-            w.1,
+            w.words-is,
             left,
             c.drop_found.ensures,
             c.tx_in-store.ensures.0 l e,
             sent,
             ← found,
-            w.0.taken,
+            w.if-not-found.true,
             or-true l.marks.discarding,
           ))
           (λ w.
           rw (
-            w.1,
+            w.words-is,
             left,
             c.drop_found.ensures,
             c.tx_in-store.ensures.0 l e,
             sent,
             ← found,
-            w.0.left,
+            w.if-not-found.false,
             or-false l.marks.discarding,
           ))
-          c.if-not-found.branch,
+          c.if-not-found.branch-raw,
       λ l e.
           rw (
             c.narrow.ensures,

@@ -27,21 +27,16 @@ held_words_spec =
     (λ c. search rules)
     (λ c κs. search rules)
     (λ c.
-    let untaken = c.before.before.before in
-    let owner = untaken.before.before in
-    let unmoved = owner.before.before in
-    let output = unmoved.before.before in
-    let wish = output.before.before.before in
     rw (
-      c.truth-word2.ensures,
-      untaken.narrow4.ensures,
-      untaken.before.narrow3.ensures,
-      owner.owner_input.ensures,
-      owner.before.owner_number.ensures,
-      unmoved.narrow2.ensures,
-      unmoved.before.narrow.ensures,
-      output.mode_output.ensures,
-      output.before.truth_word.ensures,
-      wish.mode_number.ensures,
-      wish.before.mode_wanted.ensures,
+      c.truth_word-none.ensures,
+      c.narrow-out.ensures,
+      c.narrow-by.ensures,
+      c.owner_input.ensures,
+      c.owner_number-held.ensures,
+      c.narrow-put.ensures,
+      c.narrow-to.ensures,
+      c.mode_output.ensures,
+      c.truth_word-high.ensures,
+      c.mode_number-number.ensures,
+      c.mode_wanted-wish.ensures,
     )))

@@ -15,9 +15,8 @@ is_awaited_spec =
     (λ c κs. search rules)
     (λ c. search rules)
     (λ c. search rules)
-    (λ c. rw (← c.before.before.mode_at.ensures, c.enum_told.given.1))
+    (λ c. rw (← c.mode_at-m.ensures, c.in-Idle.is))
     (λ c.
-    let arm = c.before.before in
-    c.is-wanted.ensures ∙ sym (rw (← arm.before.before.mode_at.ensures, arm.m.given.1)))
-    (λ c. rw (← c.before.before.mode_at.ensures, c.enum-told2.given.1))
-    (λ c. rw (← c.before.before.mode_at.ensures, c.enum-told3.given.1)))
+    c.is_wanted.ensures ∙ sym (rw (← c.mode_at-m.ensures, c.in-Waiting.is)))
+    (λ c. rw (← c.mode_at-m.ensures, c.in-Routed.is))
+    (λ c. rw (← c.mode_at-m.ensures, c.in-Spilling.is)))

@@ -12,7 +12,7 @@ nothing_at_input_spec =
     (λ c. search rules)
     (λ c. search rules)
     (λ c. search rules)
-    (λ c. rw c.enum_told.given.1)
+    (λ c. rw c.in-Idle.is)
     (λ c. search rules)
     (λ c. search rules)
     (λ c. search rules))

@@ -11,5 +11,5 @@ one_more_spec =
     (λ c. search rules)
     (λ c. search rules)
     (λ c. search rules)
-    (λ c. rw c.if1.true)
-    (λ c. rw c.if1.false))
+    (λ c. rw c.if-member.true)
+    (λ c. rw c.if-member.false))

@@ -22,16 +22,14 @@ through_spec =
     (λ c κs. search rules)
     (λ c κs. search rules)
     (λ c.
-    let sets = c.before.before.before.before in
-    let output = sets.before.before in
-    c.held-words.ensures
+    c.held_words.ensures
     ∙ rw (
-      c.before.both.ensures,
-      c.before.before.nothing-at-output.ensures,
-      c.before.before.before.nothing-at-input.ensures,
-      sets.inputs-that.ensures,
-      sets.before.store-at2.ensures,
-      output.output_at.ensures,
-      output.before.store_at.ensures,
-      output.before.before.mode_at.ensures,
+      c.both-nothing.ensures,
+      c.nothing_at_output.ensures,
+      c.nothing_at_input.ensures,
+      c.inputs_that-inputs.ensures,
+      c.store_at-untaken.ensures,
+      c.output_at-output.ensures,
+      c.store_at-unmoved.ensures,
+      c.mode_at-mode.ensures,
     )))
