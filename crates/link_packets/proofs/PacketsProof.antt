@@ -32,7 +32,8 @@ all_hold {was} {got} {out} {taken} {handedIn} e (t ∷ ts) g h =
     (stretches received_by (longer got (received_by e t) (returns e t)) rest ts)
     (stretches sent_by (longer out (sent_by e t) (returns e t)) rest ts)
     (taken ++ taken_by e t ++ gathered taken_by rest ts) (handedIn ++ put_by e t ++ gathered put_by rest ts) (end_after rest ts) =
-    all_hold rest ts (accounts e g t.time t.call).good (step_holds e h g (happened e g t.time t.call)) in
+    all_hold {was = was || reset_by e t} {got = longer got (received_by e t) (returns e t)}
+    {out = longer out (sent_by e t) (returns e t)} {taken = taken ++ taken_by e t} {handedIn = handedIn ++ put_by e t} rest ts (accounts e g t.time t.call).good (step_holds e h g (happened e g t.time t.call)) in
     rw (
       ← or_assoc was (reset_by e t) (reset_among rest ts),
       ← append_assoc taken (taken_by e t) (gathered taken_by rest ts),
