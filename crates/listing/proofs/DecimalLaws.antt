@@ -35,9 +35,11 @@ digits_last [] d small all = (omega arith, omega arith, tt)
 digits_last (byte ∷ text) d small all = (all.0, all.1, digits_last text d small all.2)
 
 first_still : (text more : List ℕ) → NoZeroFirst text → NoZeroFirst (text ++ more)
+first_still [] more h = elim h [ ]
 first_still (byte ∷ text) more h = h
 
 front_of_first : (text : List ℕ) → NoZeroFirst text → NoZeroInFront text
+front_of_first [] h = elim h [ ]
 front_of_first (byte ∷ []) h = tt
 front_of_first (byte ∷ next ∷ text) h = h
 

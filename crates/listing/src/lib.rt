@@ -1,5 +1,6 @@
 // The listing of a capture (01, The listing): ASCII bits in, one line of text for each report out.
 #![tactic(auto)]
+
 ghost use Rattle.std.specs.Prelude.{◌≡◌, [], ◌∷◌, false, true, ◌+◌, ◌<◌, ◌^◌, length};
 ghost use Rattle.vocabulary.specs.declared.Token.{Token};
 ghost use Rattle.characters.specs.States.{Fresh};
@@ -86,6 +87,7 @@ fn put_n_char(out: &mut [u8], at: usize, n: u32) -> usize
     }
 }
 
+#[tactic(auto, using(crate::proofs::WritingLaws::nothing_written), unfolding(crate::specs::Writing::kind_text))]
 fn put_report(out: &mut [u8], at: usize, kind: u32, value: u32) -> usize
     requires { Room out.old at (kind_text kind value) }
     ensures { Written out.old at (kind_text kind value) result out.new }

@@ -30,33 +30,33 @@ module _ (input : List ℕ) (i : ℕ) where
     unfolding good
     stops e = rw (drop-cons input i 0 more, e, add-zero i)
 
-abbrev invariant-loop : tie.invariant-loop
-invariant-loop input i₀ i = (i ≤ length input) × (i + length (good (drop i input)) ≡ length (good input))
+abbrev invariant-loop-i : tie.invariant-loop-i
+invariant-loop-i input i₀ i = (i ≤ length input) × (i + length (good (drop i input)) ≡ length (good input))
 
-abbrev decreases-loop : tie.decreases-loop
-decreases-loop input i₀ i = length input - i
+abbrev decreases-loop-i : tie.decreases-loop-i
+decreases-loop-i input i₀ i = length input - i
 
 pub good_length_spec : {M : Type 1} → statement M
 good_length_spec =
     tie.close
     (tie.spec
-    invariant-loop
-    decreases-loop
+    invariant-loop-i
+    decreases-loop-i
     (λ c. (omega arith, omega arith))
     (λ c. omega arith)
     (λ c κs. search rules)
     (λ c. omega arith)
     (λ c. omega arith)
-    (λ c. let a = c.before.before.before.before.before.before.args in
-    let l = c.before.before.before.before.loop in
-    let more = c.before.before.before.loop-test.true in
-    let here = sym c.before.is-good.ensures ∙ c.if1.true in
+    (λ c. let a = c.args in
+    let l = c.loop-i in
+    let more = c.loop-i-test.true in
+    let here = sym c.is_good.ensures ∙ c.if-is_good.true in
     (omega arith, sym (goes_on a.input.now l.i more here) ∙ l.invariant.1))
-    (λ c. let a = c.before.before.before.before.before.before.args in
-    let l = c.before.before.before.before.loop in
-    let more = c.before.before.before.loop-test.true in
-    let here = sym c.before.is-good.ensures ∙ c.if1.false in
+    (λ c. let a = c.args in
+    let l = c.loop-i in
+    let more = c.loop-i-test.true in
+    let here = sym c.is_good.ensures ∙ c.if-is_good.false in
     sym (stops a.input.now l.i more here) ∙ l.invariant.1)
-    (λ c. let a = c.before.before.before.args in
-    let l = c.before.loop in
-    omega (arith, runs_out a.input.now l.i c.loop-test.false)))
+    (λ c. let a = c.args in
+    let l = c.loop-i in
+    omega (arith, runs_out a.input.now l.i c.loop-i-test.false)))

@@ -11,6 +11,6 @@ is_good_spec =
     tie.close
     (tie.spec
     (λ c κs. search rules)
-    (λ c. rw (eq-eqb _ _ c.if1.true))
-    (λ c. rw (ne_eqb _ _ c.before.if1.false, eq-eqb _ _ c.if2.true))
-    (λ c. c.is-skipped.ensures ∙ sym (rw (ne_eqb _ _ c.before.before.if1.false, ne_eqb _ _ c.before.if2.false))))
+    (λ c. rw (eq-eqb _ _ c.if-byte-eq48.true))
+    (λ c. rw (ne_eqb _ _ c.if-byte-eq48.false, eq-eqb _ _ c.if-byte-eq49.true))
+    (λ c. c.is_skipped.ensures ∙ sym (rw (ne_eqb _ _ c.if-byte-eq48.false, ne_eqb _ _ c.if-byte-eq49.false))))

@@ -8,6 +8,6 @@ pub is_skipped_spec : {M : Type 1} → statement M
 is_skipped_spec =
     tie.close
     (tie.spec
-    (λ c. rw (eq-eqb _ _ c.if1.true))
-    (λ c. rw (ne_eqb _ _ c.before.if1.false, eq-eqb _ _ c.if2.true))
-    (λ c. rw (ne_eqb _ _ c.before.if1.false, ne_eqb _ _ c.if2.false)))
+    (λ c. rw (eq-eqb _ _ c.if-byte-eq32.true))
+    (λ c. rw (ne_eqb _ _ c.if-byte-eq32.false, eq-eqb _ _ c.if-byte-eq10.true))
+    (λ c. rw (ne_eqb _ _ c.if-byte-eq32.false, ne_eqb _ _ c.if-byte-eq10.false)))

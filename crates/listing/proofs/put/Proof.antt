@@ -20,35 +20,35 @@ module _ (out : List ℕ) (at : ℕ) (text : List ℕ) (i : ℕ) where
   none_left : length text ≤ i → sets out (at + i) (drop i text) ≡ out
   none_left h = rw (drop_of_length-le text h)
 
-abbrev invariant-loop : tie.invariant-loop
-invariant-loop out₀ at text i₀ out i =
+abbrev invariant-loop-i : tie.invariant-loop-i
+invariant-loop-i out₀ at text i₀ out i =
     (i ≤ length text) × (length out ≡ length out₀) × (sets out (at + i) (drop i text) ≡ sets out₀ at text)
 
-abbrev decreases-loop : tie.decreases-loop
-decreases-loop out₀ at text i₀ out i = length text - i
+abbrev decreases-loop-i : tie.decreases-loop-i
+decreases-loop-i out₀ at text i₀ out i = length text - i
 
 pub put_spec : {M : Type 1} → statement M
 put_spec =
     tie.close
     (tie.spec
-    invariant-loop
-    decreases-loop
+    invariant-loop-i
+    decreases-loop-i
     (λ c. (omega arith, refl, rw (add-zero c.args.at)))
     (λ c. omega arith)
     (λ c. omega arith)
     (λ c. omega arith)
     (λ c. omega arith)
     (λ c. omega arith)
-    (λ c. let a = c.before.before.before.args in
-    let l = c.before.before.loop in
-    let step = one_more l.out a.at a.text.now l.i c.before.loop-test.true in
+    (λ c. let a = c.args in
+    let l = c.loop-i in
+    let step = one_more l.out a.at a.text.now l.i c.loop-i-test.true in
     (omega arith, simp length-set l.invariant.1, sym step ∙ l.invariant.2))
     (λ c. omega arith)
     (λ c. omega arith)
-    (λ c. let a = c.before.before.args in
-    let l = c.before.loop in
+    (λ c. let a = c.args in
+    let l = c.loop-i in
     let done : l.i ≡ length a.text.now = omega arith in
     record {
       behind = ap (λ (k : ℕ). a.at + k) done;
-      stands = sym (none_left l.out a.at a.text.now l.i c.loop-test.false) ∙ l.invariant.2;
+      stands = sym (none_left l.out a.at a.text.now l.i c.loop-i-test.false) ∙ l.invariant.2;
     }))

@@ -14,13 +14,11 @@ take_bit_spec =
     (λ c. search rules)
     (λ c. search rules)
     (λ c. search rules)
-    (λ c κs. let bit = c.before.before in
-    let s = bit.before.before.before.before.before.before in
-    rw (bit_line s.args.l s.args.b s.requires.1.1 (rw bit.before.before.truth_word.ensures at
-    bit.bit.ensures)) s.requires.0)
+    (λ c κs.
+    rw (bit_line c.args.l c.args.b c.requires.1.1 (rw c.truth_word.ensures at
+    c.bit.ensures)) c.requires.0)
     (λ c. search rules)
-    (λ c. let bit = c.before.before.before.before.before in
-    let s = bit.before.before.before.before.before.before in
-    let took = rw bit.before.before.truth_word.ensures at bit.bit.ensures in
-    bit_goes s.args.l s.args.b s.requires.1.1 took (rw (bit_line s.args.l s.args.b s.requires.1.1
-    took) at c.before.before.put-line.ensures)))
+    (λ c.
+    let took = rw c.truth_word.ensures at c.bit.ensures in
+    bit_goes c.args.l c.args.b c.requires.1.1 took (rw (bit_line c.args.l c.args.b c.requires.1.1
+    took) at c.put_line-at.ensures)))

@@ -11,14 +11,14 @@ pub take_byte_spec : {M : Type 1} → statement M
 take_byte_spec =
     tie.close
     (tie.spec
-    (λ c κs. rw (eq-eqb _ _ c.before.if1.true) at c.before.before.before.requires)
-    (λ c κs. let tested = c.before in
-    rw (ne_eqb _ _ tested.before.if1.false, eq-eqb _ _ tested.if2.true) at tested.before.before.before.requires)
+    (λ c κs. rw (eq-eqb _ _ c.if-byte-eq48.true) at c.requires)
+    (λ c κs.
+    rw (ne_eqb _ _ c.if-byte-eq48.false, eq-eqb _ _ c.if-byte-eq49.true) at c.requires)
     (λ c. search rules)
-    (λ c. rw (eq-eqb _ _ c.before.before.before.before.if1.true) c.before.before.take-bit.ensures)
+    (λ c. rw (eq-eqb _ _ c.if-byte-eq48.true) c.take_bit.ensures)
     (λ c. search rules)
-    (λ c. let tested = c.before.before.before.before in
-    rw (ne_eqb _ _ tested.before.if1.false, eq-eqb _ _ tested.if2.true) c.before.before.take-bit2.ensures)
-    (λ c. let s = c.before.before.before in
-    rw (ne_eqb _ _ c.before.if1.false, ne_eqb _ _ c.if2.false)
-    (record { listed = nothing_listed s.args.out.now (meant s.args.l); keeps = s.requires.1.1 })))
+    (λ c.
+    rw (ne_eqb _ _ c.if-byte-eq48.false, eq-eqb _ _ c.if-byte-eq49.true) c.take_bit-then-byte-eq49.ensures)
+    (λ c.
+    rw (ne_eqb _ _ c.if-byte-eq48.false, ne_eqb _ _ c.if-byte-eq49.false)
+    (record { listed = nothing_listed c.args.out.now (meant c.args.l); keeps = c.requires.1.1 })))

@@ -18,8 +18,8 @@ use Rattle.listing.proofs.InputLaws.{bits_few}
 use Rattle.listing.proofs.take_bytes.Statement.{statement}
 use Rattle.listing.proofs.take_bytes.Tie as tie
 
-abbrev invariant-loop : tie.invariant-loop
-invariant-loop out₀ bytes now₀ i₀ out now i =
+abbrev invariant-loop-i : tie.invariant-loop-i
+invariant-loop-i out₀ bytes now₀ i₀ out now i =
     (i ≤ length bytes)
     × (length out ≡ length out₀)
     × (progressed (meant now) (bits_in (drop i bytes)) ≡ progressed (meant now₀) (bits_in bytes))
@@ -27,8 +27,8 @@ invariant-loop out₀ bytes now₀ i₀ out now i =
     ≡ sets out₀ now₀.at (more_text (meant now₀) (bits_in bytes)))
     × (is_decoder now.words ≡ true)
 
-abbrev decreases-loop : tie.decreases-loop
-decreases-loop out₀ bytes now₀ i₀ out now i = length bytes - i
+abbrev decreases-loop-i : tie.decreases-loop-i
+decreases-loop-i out₀ bytes now₀ i₀ out now i = length bytes - i
 
 module _ (bytes : List ℕ) (i : ℕ) where
   one_byte : i < length bytes → bits_in (drop i bytes) ≡ bit_of (get_or bytes i 0) ++ bits_in (drop (i + 1) bytes)
@@ -57,40 +57,38 @@ pub take_bytes_spec : {M : Type 1} → statement M
 take_bytes_spec =
     tie.close
     (tie.spec
-    invariant-loop
-    decreases-loop
-    (λ c. (omega arith, refl, refl, refl, c.before.before.requires.1.1))
+    invariant-loop-i
+    decreases-loop-i
+    (λ c. (omega arith, refl, refl, refl, c.requires.1.1))
     (λ c. omega arith)
-    (λ c κs. let l = c.before.before.before.loop in
-    let s = c.before.before.before.before.before.before in
-    let bytes = s.args.bytes.now in
+    (λ c κs. let l = c.loop-i in
+    let bytes = c.args.bytes.now in
     let here = bit_of (get_or bytes l.i 0) in
     let rest = bits_in (drop (l.i + 1) bytes) in
-    let same = rw (one_byte bytes l.i c.before.before.loop-test.true) at l.invariant.2 in
+    let same = rw (one_byte bytes l.i c.loop-i-test.true) at l.invariant.2 in
     let few = bits_few bytes in
-    let count = count_here (meant s.args.l) (meant l.now) (bits_in bytes) here rest same in (
-      room_here (meant s.args.l) (meant l.now) (bits_in bytes) here rest same l.out l.invariant.1 s.requires.0,
-      (omega (arith, s.requires.1.0), l.invariant.4),
+    let count = count_here (meant c.args.l) (meant l.now) (bits_in bytes) here rest same in (
+      room_here (meant c.args.l) (meant l.now) (bits_in bytes) here rest same l.out l.invariant.1 c.requires.0,
+      (omega (arith, c.requires.1.0), l.invariant.4),
     ))
     (λ c. omega arith)
     (λ c. omega arith)
-    (λ c. let step = c.before.before in
-    let l = step.before.before.before.before.loop in
-    let s = step.before.before.before.before.before.before.before in
-    let bytes = s.args.bytes.now in
+    (λ c.
+    let l = c.loop-i in
+    let bytes = c.args.bytes.now in
     let here = bit_of (get_or bytes l.i 0) in
     let rest = bits_in (drop (l.i + 1) bytes) in
-    let e = one_byte bytes l.i step.before.before.before.loop-test.true in (
+    let e = one_byte bytes l.i c.loop-i-test.true in (
       omega arith,
-      step.take-byte.auto.0 ∙ l.invariant.1,
-      progress_left here rest step.take-byte.ensures.listed ∙ rw (← e) l.invariant.2,
-      text_left here rest step.take-byte.ensures.listed ∙ rw (← e) l.invariant.3,
-      step.take-byte.ensures.keeps,
+      c.take_byte-now.auto.out ∙ l.invariant.1,
+      progress_left here rest c.take_byte-now.ensures.listed ∙ rw (← e) l.invariant.2,
+      text_left here rest c.take_byte-now.ensures.listed ∙ rw (← e) l.invariant.3,
+      c.take_byte-now.ensures.keeps,
     ))
-    (λ c. c.before.loop.invariant.1)
-    (λ c. let l = c.before.loop in
-    let bytes = c.before.before.before.before.args.bytes.now in
-    let none = no_bytes bytes l.i c.loop-test.false in
+    (λ c. c.loop-i.invariant.1)
+    (λ c. let l = c.loop-i in
+    let bytes = c.args.bytes.now in
+    let none = no_bytes bytes l.i c.loop-i-test.false in
     let still = nothing_listed l.out (meant l.now) in
     record {
       listed = record {

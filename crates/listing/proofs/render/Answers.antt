@@ -1,7 +1,6 @@
--- `listing::render` meets its contract. A buffer that is not too small has room for any listing, and a listing written at
+-- A buffer that is not too small has room for any listing, and a listing written at
 -- its start is the listing with what stood behind it.
 -- Assumes nothing.
-use borrow.Author.Rules.{rules}
 use borrow.Author.Tests.{lt-ltb, le-ltb}
 use mathlib.Core.Path.{◌≡◌, refl, sym, ap, ◌∙◌}
 use mathlib.Core.List.{List, ◌++◌}
@@ -14,8 +13,7 @@ use Rattle.listing.specs.Listing.{listing, room, too_small, answer, buffer, Rend
 use Rattle.listing.specs.Writing.{Room, Written}
 use Rattle.listing.proofs.ListingLaws.{too_long, not_too_long}
 use Rattle.listing.proofs.RoomLaws.{listings_fit}
-use Rattle.listing.proofs.render.Statement.{statement}
-use Rattle.listing.proofs.render.Tie as tie
+use Rattle.listing.proofs.render.Goals as goal
 
 module _ (input out : List ℕ) (large : room ≤ length out) where
   enough : Room out 0 (listing input)
@@ -44,23 +42,20 @@ refused input out h =
     let small = lt-ltb (length out) room h in
     record { answers = rw small; leaves = rw small; within = omega arith; counts = refl }
 
-pub render_spec : {M : Type 1} → statement M
-render_spec =
-    tie.close
-    (tie.spec
-    (λ c. let a = c.before.before.before.args in refused a.input.now a.out.now c.if1.true)
-    (λ c. search rules)
-    (λ c κs. search rules)
-    (λ c κs. let s = c.before.before.before.before.before in
-    rw (not_too_long s.args.input.now c.before.if2.false)
-    at (enough s.args.input.now s.args.out.now c.before.before.if1.false))
-    (λ c. search rules)
-    (λ c. let tested = c.before.before.before.before.before in
-    let s = tested.before.before.before.before in
-    rendered s.args.input.now s.args.out.now tested.before.if1.false
-    (rw (too_long s.args.input.now tested.if2.true) c.before.before.put.ensures))
-    (λ c. search rules)
-    (λ c. let tested = c.before.before.before.before in
-    let s = tested.before.before.before.before in
-    rendered s.args.input.now s.args.out.now tested.before.if1.false
-    (rw (not_too_long s.args.input.now tested.if2.false) c.before.before.put-lines.ensures)))
+pub returns-then-out-lt-ROOM : goal.returns-then-out-lt-ROOM
+returns-then-out-lt-ROOM c = refused c.args.input.now c.args.out.now c.if-out-lt-ROOM.true
+
+pub put_lines-requires : goal.put_lines-requires
+put_lines-requires c =
+    rw (not_too_long c.args.input.now c.if-input-gt65536.false) at
+    (enough c.args.input.now c.args.out.now c.if-out-lt-ROOM.false)
+
+pub returns-then-input-gt65536 : goal.returns-then-input-gt65536
+returns-then-input-gt65536 c =
+    rendered c.args.input.now c.args.out.now c.if-out-lt-ROOM.false
+    (rw (too_long c.args.input.now c.if-input-gt65536.true) c.put.ensures)
+
+pub returns-else-input-gt65536 : goal.returns-else-input-gt65536
+returns-else-input-gt65536 c =
+    rendered c.args.input.now c.args.out.now c.if-out-lt-ROOM.false
+    (rw (not_too_long c.args.input.now c.if-input-gt65536.false) c.put_lines.ensures)
