@@ -37,8 +37,7 @@ empty_receive_spec =
             truth_told l e TAKEN l.marks.taken refl c.truth.ensures c.if-truth.true,
           ),
     ))
-    (λ c.
-    (
+    (λ c. (
       λ small l e.
           let taken = truth_told l e TAKEN l.marks.taken refl c.truth.ensures c.if-truth.false in
           c.set_rx-else-truth.ensures (rw c.fresh-else-truth.ensures fresh_fits) l e ∙ rw (c.fresh-else-truth.ensures, taken),
