@@ -4,6 +4,7 @@
 use Rattle.std.specs.Prelude.{◌≡◌, true, false, List, [], ◌∷◌, ℕ, suc, ◌≤◌, replicate, eqb, leb}
 use contract.Lifetimes.{Lfts}
 use Rattle.std.specs.Borrow.{Bor}
+use denote.MutBor.{MutBor}
 use borrow.Fn.Kinds.{Dens}
 use Rattle.vocabulary.specs.Choice.{pick}
 use Rattle.vocabulary.specs.NChars.{EOP}
@@ -30,31 +31,34 @@ use Rattle.promises.specs.Promises.{Done, Promise, Arguments, Build, Number, Bre
 use Rattle.promises.specs.Promises.{Tick, Fault, Control, Reset, Send, Receive, Put, Take, Offer, RouterPut}
 use Rattle.promises.specs.Promises.{RouterTake, RouterRun, RouterWrite, RouterRead, RouterHeld}
 
--- what words or places hold that are lent to a call; where they lie is nothing to the promise
-abbrev pub lent : List ℕ → Bor (List ℕ)
-lent held = record { ref_ptr = (0, 0); now = held }
+-- what words or places hold that are lent to a call to be changed, or to be read; where they lie is nothing to the promise
+abbrev pub lent : List ℕ → MutBor (List ℕ)
+lent held = record { ref_ptr = (0, 0); ghost_name = 0; now = held }
+
+abbrev pub shown : List ℕ → Bor (List ℕ)
+shown held = record { ref_ptr = (0, 0); now = held }
 
 -- a fresh end, words for answers, places for a link end's two stores, a router's area of nine places each, and its table
-abbrev pub link : Link → Bor (List ℕ)
+abbrev pub link : Link → MutBor (List ℕ)
 link l = lent (link_words l)
 
-abbrev pub out : ℕ → Bor (List ℕ)
+abbrev pub out : ℕ → MutBor (List ℕ)
 out count = lent (replicate count 0)
 
-abbrev pub rx : Bor (List ℕ)
-rx = lent (replicate 9 0)
+abbrev pub rx : List ℕ
+rx = replicate 9 0
 
-abbrev pub tx : Bor (List ℕ)
-tx = lent (65 ∷ EOP ∷ 66 ∷ [])
+abbrev pub tx : List ℕ
+tx = 65 ∷ EOP ∷ 66 ∷ []
 
-abbrev pub router : Router → Bor (List ℕ)
+abbrev pub router : Router → MutBor (List ℕ)
 router s = lent (router_words s)
 
-abbrev pub area : Bor (List ℕ)
-area = lent (replicate 198 0)
+abbrev pub area : List ℕ
+area = replicate 198 0
 
-abbrev pub table : Bor (List ℕ)
-table = lent fresh_table
+abbrev pub table : List ℕ
+table = fresh_table
 
 -- ---- "One that refuses all": no answer of it is 0, whatever it is handed
 abbrev pub RefusesAll : (p : Promise) → Number p → Build p → Type 0
@@ -81,23 +85,23 @@ pub record RefusingAll : Type 0 where
       NoneRefusesAll Encode (λ κs d. d.0) (λ κs. (lent (encoder_words fresh_encoder), (kind_of Null, (0, (out 2, tt)))))
   pub bit : NoneRefusesAll Bit (λ κs d. d.0) (λ κs. (lent (decoder_words Fresh), (0, (out 2, tt))))
   pub decoder_tick : NoneRefusesAll DecoderTick (λ κs d. d.0) (λ κs. (lent (decoder_words Fresh), (out 2, tt)))
-  pub tick : NoneRefusesAll Tick (λ κs d. d.0) (λ κs. (link fresh_link, (rx, (tx, (out 1, tt)))))
-  pub fault : NoneRefusesAll Fault (λ κs d. d.0) (λ κs. (link fresh_link, (rx, (tx, (7, (out 1, tt))))))
-  pub control : NoneRefusesAll Control (λ κs d. d.0) (λ κs. (link fresh_link, (rx, (tx, (0, (1, (0, (out 1, tt))))))))
-  pub reset : NoneRefusesAll Reset (λ κs d. d.0) (λ κs. (link fresh_link, (rx, (tx, (out 1, tt)))))
-  pub send : NoneRefusesAll Send (λ κs d. d.0) (λ κs. (link fresh_link, (rx, (tx, (out 3, tt)))))
+  pub tick : NoneRefusesAll Tick (λ κs d. d.0) (λ κs. (link fresh_link, (lent rx, (shown tx, (out 1, tt)))))
+  pub fault : NoneRefusesAll Fault (λ κs d. d.0) (λ κs. (link fresh_link, (lent rx, (shown tx, (7, (out 1, tt))))))
+  pub control : NoneRefusesAll Control (λ κs d. d.0) (λ κs. (link fresh_link, (lent rx, (shown tx, (0, (1, (0, (out 1, tt))))))))
+  pub reset : NoneRefusesAll Reset (λ κs d. d.0) (λ κs. (link fresh_link, (lent rx, (shown tx, (out 1, tt)))))
+  pub send : NoneRefusesAll Send (λ κs d. d.0) (λ κs. (link fresh_link, (lent rx, (shown tx, (out 3, tt)))))
   pub receive :
       NoneRefusesAll Receive (λ κs d. d.0)
-      (λ κs. (link fresh_link, (rx, (tx, (lent (time_words fresh_time), (kind_of Null, (0, (out 2, tt))))))))
-  pub put : NoneRefusesAll Put (λ κs d. d.0) (λ κs. (link fresh_link, (tx, (65, (out 1, tt)))))
-  pub take : NoneRefusesAll Take (λ κs d. d.0) (λ κs. (link one_received, (rx, (out 2, tt))))
+      (λ κs. (link fresh_link, (lent rx, (shown tx, (lent (time_words fresh_time), (kind_of Null, (0, (out 2, tt))))))))
+  pub put : NoneRefusesAll Put (λ κs d. d.0) (λ κs. (link fresh_link, (lent tx, (65, (out 1, tt)))))
+  pub take : NoneRefusesAll Take (λ κs d. d.0) (λ κs. (link one_received, (shown rx, (out 2, tt))))
   pub offer : NoneRefusesAll Offer (λ κs d. d.0) (λ κs. (link in_run, (5, (out 1, tt))))
-  pub router_put : NoneRefusesAll RouterPut (λ κs d. d.0) (λ κs. (router fresh_router, (area, (1, (65, tt)))))
-  pub router_take : NoneRefusesAll RouterTake (λ κs d. d.0) (λ κs. (router one_routed, (area, (3, (out 1, tt)))))
-  pub router_run : NoneRefusesAll RouterRun (λ κs d. d.0) (λ κs. (router fresh_router, (area, (table, (1, (out 3, tt))))))
-  pub router_write : NoneRefusesAll RouterWrite (λ κs d. d.0) (λ κs. (router fresh_router, (table, (39, (4, tt)))))
-  pub router_read : NoneRefusesAll RouterRead (λ κs d. d.0) (λ κs. (router fresh_router, (table, (39, (out 1, tt)))))
-  pub router_held : NoneRefusesAll RouterHeld (λ κs d. d.0) (λ κs. (router fresh_router, (1, (out 11, tt))))
+  pub router_put : NoneRefusesAll RouterPut (λ κs d. d.0) (λ κs. (router fresh_router, (lent area, (1, (65, tt)))))
+  pub router_take : NoneRefusesAll RouterTake (λ κs d. d.0) (λ κs. (router one_routed, (shown area, (3, (out 1, tt)))))
+  pub router_run : NoneRefusesAll RouterRun (λ κs d. d.0) (λ κs. (router fresh_router, (lent area, (shown table, (1, (out 3, tt))))))
+  pub router_write : NoneRefusesAll RouterWrite (λ κs d. d.0) (λ κs. (shown (router_words fresh_router), (lent table, (39, (4, tt)))))
+  pub router_read : NoneRefusesAll RouterRead (λ κs d. d.0) (λ κs. (shown (router_words fresh_router), (shown table, (39, (out 1, tt)))))
+  pub router_held : NoneRefusesAll RouterHeld (λ κs d. d.0) (λ κs. (shown (router_words fresh_router), (1, (out 11, tt))))
 
 -- ---- "A decoder that always says NULL": whatever token it reports, 1 to 4 by number, it is NULL
 abbrev pub SaysOnlyNull : Build Bit → Type 0
@@ -119,13 +123,13 @@ StaysInErrorReset build =
 abbrev pub tick64 : Arguments Tick
 tick64 κs = (
   link (with_stage fresh_link (record { state = ErrorReset; timer = 63; gotnull = false; nullsent = false })),
-  (rx, (tx, (out 1, tt))),
+  (lent rx, (shown tx, (out 1, tt))),
 )
 
 -- ---- "A router right in round one and idle later": one round or more leave the words that one leaves
 abbrev pub IdleLater : Build RouterRun → Type 0
 IdleLater build =
-    (κs : Lfts 4) (words area table answer : Bor (List ℕ)) (more : ℕ) →
+    (κs : Lfts 4) (words area : MutBor (List ℕ)) (table : Bor (List ℕ)) (answer : MutBor (List ℕ)) (more : ℕ) →
     (build κs (words, (area, (table, (suc more, (answer, tt)))))).1.0.now
     ≡ (run_left words.now area.now table.now 1).state
 
@@ -133,7 +137,7 @@ IdleLater build =
 abbrev pub run_of10 : List ℕ → Arguments RouterRun
 run_of10 held κs = (
   router (holding smallest 1 held).router,
-  (lent (holding smallest 1 held).area, (table, (10, (out 3, tt)))),
+  (lent (holding smallest 1 held).area, (shown table, (10, (out 3, tt)))),
 )
 
 abbrev pub to_output3 : Arguments RouterRun
@@ -157,17 +161,17 @@ abbrev pub discarding : Link
 discarding = with_marks fresh_link (record { stored = false; sent = false; taken = false; put = true; discarding = true })
 
 abbrev pub put_while_discarding : Arguments Put
-put_while_discarding κs = (link discarding, (tx, (65, (out 1, tt))))
+put_while_discarding κs = (link discarding, (lent tx, (65, (out 1, tt))))
 
 pub record Inventing : Type 0 where
   -- discarded: an N-Char put to an end that discards; all that a reset finds; what a fault finds through the first end
   pub put : NoneInvents Put (λ κs d. word_at d.1.1.1.1.0.now 0) put_while_discarding 1
   pub reset :
       NoneInvents Reset (λ κs d. word_at d.1.1.1.1.0.now 0)
-      (λ κs. (link (waiting_to_send 3 fresh_link), (rx, (tx, (out 1, tt))))) 3
+      (λ κs. (link (waiting_to_send 3 fresh_link), (lent rx, (shown tx, (out 1, tt))))) 3
   pub fault :
       NoneInvents Fault (λ κs d. word_at d.1.1.1.1.1.0.now 0)
-      (λ κs. (link (waiting_to_send 3 in_run), (rx, (tx, (7, (out 1, tt)))))) 2
+      (λ κs. (link (waiting_to_send 3 in_run), (lent rx, (shown tx, (7, (out 1, tt)))))) 2
   pub rounds : NoneInvents RouterRun (λ κs d. word_at d.1.1.1.1.1.0.now 0) to_output3 3
   pub moved : NoneInvents RouterRun (λ κs d. word_at d.1.1.1.1.1.0.now 1) to_output3 2
   pub errors : NoneInvents RouterRun (λ κs d. word_at d.1.1.1.1.1.0.now 2) to_nowhere 1
