@@ -19,7 +19,7 @@ DECLARED = re.compile(
 )
 USE = re.compile(r"^\s*(?:pub )?(?:ghost )?use ([^\s{]+?)(?:\.\{([^}]*)\})?(?: as (\S+?))?;?$", re.M)
 MADE = re.compile(r"(invariant|decreases)-")
-# Lemmas that would fall together with the definition that they speak of, and what they are called. The promises crate has its
+# Names that would fall together with another, mostly lemmas with the definition that they speak of, and what they are called. The promises crate has its
 # one-answer lines under the functions' names, and no such lemma but one.
 APART = {
     n: n.replace("-", "_") + "_lem"
@@ -29,7 +29,13 @@ APART = {
         "put-stored null-for nothing-held row-refused held-refused fresh-store state-first mode-at output-at output-in store_in "
         "mode-words left-at"
     ).split()
-}
+} | {"wentOn": "WentOn", "thrownAway": "ThrownAway", "routerPut": "puts_router"}
+# what is declared in a list of names (constructors, variables) and what a file calls what it brings in
+LISTED = set(
+    "isEnabled nullsExchanged linkDisabled timerAtLimit atNear atFar handedIn sentNull isOne asRefused "
+    "routerTakes routerTakeLeft routerPuts routerPutLeft routerTold routerTakeTests routerRunTests routerRowTests "
+    "routerPutTests routerHeldTests decoderTickLeft fctCharacter escCharacter behindEsc gotNull sentNull' gotNull' handedIn'".split()
+)
 # of these, the ones that are fields of a record of laws; behind a dot any other is what Rattle makes of a function's name
 FIELDS = set("is-decoder is-encoder is-link is-time is-router fresh-time nothing-held".split())
 
@@ -77,7 +83,7 @@ def respelled(name):
 
 
 def collect():
-    names = set()
+    names = set(LISTED)
     for f in antt_files():
         text = open(f, encoding="utf-8").read()
         lib = brought_in(text)
@@ -89,12 +95,12 @@ def collect():
         for m in TOKEN.finditer(body):
             if wants(m.group()) and "-" in m.group() and m.group() not in lib and body[m.start() - 1] != ".":
                 names.add(m.group())
-    return {n: respelled(n) for n in names} | {n: n.replace("-", "_") for n in APART}
+    return {n: respelled(n) for n in names} | {n: n.replace("-", "_") for n in APART if not re.search("[A-Z]", n)}
 
 
 def apart(path):
     """The lemmas that are called otherwise in this file."""
-    return {n: new for n, new in APART.items() if "/promises/" not in path or n == "null-for"}
+    return {n: new for n, new in APART.items() if "/promises/" not in path or n in ("null-for", "routerPut")}
 
 
 def clashes(turn):

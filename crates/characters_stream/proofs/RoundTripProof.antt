@@ -11,7 +11,7 @@ use Rattle.vocabulary.specs.Tokens.{bad_char}
 use Rattle.vocabulary.specs.declared.Token.{Token}
 use Rattle.vocabulary.specs.declared.Token.TheVariants.{Null, Fct, NChar, TimeCode}
 use Rattle.characters.specs.Bits.{odd, bits_of}
-use Rattle.characters.specs.Wire.{Character, data8, fct as fctCharacter, esc as escCharacter, parity_bit, good_parity}
+use Rattle.characters.specs.Wire.{Character, data8, fct as fct_character, esc as esc_character, parity_bit, good_parity}
 use Rattle.characters.specs.Wire.{n_char_character, characters_of, wire, last_odd, wire_of}
 use Rattle.characters.specs.Encoder.{fresh_encoder, sent}
 use Rattle.characters.specs.Decoder.{body_odd, escaped, closes}
@@ -85,13 +85,13 @@ token_run : {w : Waiting} {d : Decoder} {rs : List Report} (t : Token) (rest : L
     Run (Heard (Between (Whole t)) 0) rest rs d →
     Run (Heard (Between w) 0) (wire_of (body_odd w) t ++ rest) (said (closes w) ++ rs) d
 token_run Null rest h passes plain run =
-    sent_run escCharacter (fctCharacter ∷ []) rest passes (unescaped plain esc)
-    (sent_run fctCharacter [] rest refl null run)
-token_run Fct rest h passes plain run = sent_run fctCharacter [] rest passes (unescaped plain fct) run
+    sent_run esc_character (fct_character ∷ []) rest passes (unescaped plain esc)
+    (sent_run fct_character [] rest refl null run)
+token_run Fct rest h passes plain run = sent_run fct_character [] rest passes (unescaped plain fct) run
 token_run (NChar n) rest h passes plain run =
     sent_run (n_char_character n) [] rest passes (unescaped plain (n_char_reading n h)) run
 token_run (TimeCode v) rest h passes plain run =
-    sent_run escCharacter (data8 v ∷ []) rest passes (unescaped plain esc)
+    sent_run esc_character (data8 v ∷ []) rest passes (unescaped plain esc)
     (sent_run (data8 v) [] rest refl (time_reading v h) run)
 
 -- of the tokens behind one that waits, and that one, all but the last are reported

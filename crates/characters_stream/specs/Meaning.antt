@@ -27,7 +27,7 @@ abbrev pub TogetherOdd : List Bool → Bool → Bool → Type 0
 TogetherOdd body p flag = odd (body ++ p ∷ flag ∷ []) ≡ true
 
 -- "Flag 0: eight data bits, least significant first. Flag 1: two bits, in sending order 00 FCT, 01 EOP, 10 EEP, 11 ESC. ESC
--- then FCT is NULL; ESC then a data character is a Time-Code." `Reading behindEsc flag body w`: w waits once this body is whole.
+-- then FCT is NULL; ESC then a data character is a Time-Code." `Reading behind_esc flag body w`: w waits once this body is whole.
 pub data Reading : Bool → Bool → List Bool → Waiting → Type 0 where
   byte : {body : List Bool} → length body ≡ 8 → Reading false false body (Whole (NChar (number body)))
   fct : Reading false true (false ∷ false ∷ []) (Whole Fct)

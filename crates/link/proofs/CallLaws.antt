@@ -21,7 +21,7 @@ use Rattle.link.specs.declared.Event.TheVariants.{Quiet}
 use Rattle.link.specs.declared.Sent.{Sent}
 use Rattle.link.specs.Calls.{accepted, refused, both, answered, refused_with, dispatched, dispatch_of, send_refused}
 use Rattle.link.specs.Calls.{send_outcome, receive_outcome, token_accepted, received, receipt_of, receiving}
-use Rattle.link.specs.Calls.{receive_refused as asRefused}
+use Rattle.link.specs.Calls.{receive_refused as as_refused}
 use Rattle.link.specs.Received.{token_effect, token_places}
 use Rattle.time.specs.Time.{bad_time}
 use Rattle.link.specs.Recovery.{settles}
@@ -156,12 +156,12 @@ module _ (words rx tx time : List ℕ) (kind value : ℕ) where
 
   receive_refusal_lem :
       (receive_left words rx tx time kind value).refusal ≡ receive_refused words (length rx) (length tx) time token
-  unfolding receive_left receive_outcome end_of no_receipt receipt_left token_accepted received receipt_of asRefused
+  unfolding receive_left receive_outcome end_of no_receipt receipt_left token_accepted received receipt_of as_refused
   receive_refusal_lem = by (is_link words && is_time time) refl
     where
       hears : (n : ℕ) (test : Bool) → eqb n 0 ≡ test →
           (receipt_left (pick test (token_accepted (end_of words rx tx) (time_of time) token)
-          (record { answer = asRefused (link_of words) (time_of time) n; rx = rx }))).refusal ≡ n
+          (record { answer = as_refused (link_of words) (time_of time) n; rx = rx }))).refusal ≡ n
       hears n true e = sym (eqb-true n 0 e)
       hears n false e = refl
 

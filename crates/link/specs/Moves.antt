@@ -33,7 +33,7 @@ event_number CreditError = 5
 -- what a row of the table asks for
 pub data When : Type 0 where
   came : Event → When
-  isEnabled nullsExchanged linkDisabled timerAtLimit : When
+  is_enabled nulls_exchanged link_disabled timer_at_limit : When
 
 -- a move of a row: when, and where to
 pub record Move : Type 0 where
@@ -50,14 +50,14 @@ the_four =
 
 -- the table
 abbrev pub row : LinkState → List Move
-row ErrorReset = on timerAtLimit ErrorWait ∷ []
-row ErrorWait = the_four ++ on timerAtLimit Ready ∷ []
-row Ready = the_four ++ on isEnabled Started ∷ []
-row Started = the_four ++ on nullsExchanged Connecting ∷ on timerAtLimit ErrorReset ∷ []
+row ErrorReset = on timer_at_limit ErrorWait ∷ []
+row ErrorWait = the_four ++ on timer_at_limit Ready ∷ []
+row Ready = the_four ++ on is_enabled Started ∷ []
+row Started = the_four ++ on nulls_exchanged Connecting ∷ on timer_at_limit ErrorReset ∷ []
 row Connecting =
     on (came Fault) ErrorReset ∷ on (came GotNChar) ErrorReset ∷ on (came GotTimeCode) ErrorReset
-    ∷ on (came GotFct) Run ∷ on timerAtLimit ErrorReset ∷ []
-row Run = on (came Fault) ErrorReset ∷ on (came CreditError) ErrorReset ∷ on linkDisabled ErrorReset ∷ []
+    ∷ on (came GotFct) Run ∷ on timer_at_limit ErrorReset ∷ []
+row Run = on (came Fault) ErrorReset ∷ on (came CreditError) ErrorReset ∷ on link_disabled ErrorReset ∷ []
 
 -- the timer's limits in the table; "not 0 in Ready, Run" is refused, so there it never comes to 1
 abbrev pub limit_of : LinkState → ℕ
@@ -90,10 +90,10 @@ conditions l =
 
 abbrev pub holds : Event → Conditions → When → Bool
 holds event c (came kind) = eqb (event_number event) (event_number kind)
-holds event c isEnabled = c.enabled
-holds event c nullsExchanged = c.exchanged
-holds event c linkDisabled = c.disabled
-holds event c timerAtLimit = c.at_limit
+holds event c is_enabled = c.enabled
+holds event c nulls_exchanged = c.exchanged
+holds event c link_disabled = c.disabled
+holds event c timer_at_limit = c.at_limit
 
 -- "at most one move is made, the first that fits"
 abbrev pub first_that_fits : Event → Conditions → List Move → LinkState → LinkState

@@ -3,7 +3,7 @@
 -- Assumes nothing.
 use Rattle.std.specs.Prelude.{◌≡◌, Bool, ℕ, zero, suc, ◌+◌, ◌<◌, List, [], ◌∷◌, get_or, eqb}
 use Rattle.vocabulary.specs.Choice.{pick}
-use Rattle.link.specs.Moves.{is_state, event_number, When, came, isEnabled, nullsExchanged, linkDisabled, timerAtLimit}
+use Rattle.link.specs.Moves.{is_state, event_number, When, came, is_enabled, nulls_exchanged, link_disabled, timer_at_limit}
 use Rattle.link.specs.Moves.{state_number, Move, row, Conditions, state_after}
 use Rattle.link.specs.declared.LinkState.{LinkState}
 use Rattle.link.specs.declared.LinkState.TheVariants.{ErrorReset, ErrorWait, Ready, Started, Connecting, Run}
@@ -12,10 +12,10 @@ use Rattle.link.specs.declared.Event.{Event}
 -- the column of what a row may ask for
 abbrev pub column_of : When → ℕ
 column_of (came event) = event_number event
-column_of isEnabled = 6
-column_of nullsExchanged = 7
-column_of linkDisabled = 8
-column_of timerAtLimit = 9
+column_of is_enabled = 6
+column_of nulls_exchanged = 7
+column_of link_disabled = 8
+column_of timer_at_limit = 9
 
 -- what stands in a column: the row's move for it, or the state itself
 abbrev pub in_column : List Move → ℕ → LinkState → LinkState

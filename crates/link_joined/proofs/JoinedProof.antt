@@ -6,7 +6,7 @@ use mathlib.Core.List.{List, [], ◌∷◌}
 use Rattle.vocabulary.specs.Choice.{pick}
 use Rattle.vocabulary.specs.declared.Token.{Token}
 use Rattle.link_laws.specs.Calls.{receive, token_in}
-use Rattle.link_joined.specs.Pair.{Pair, swap, Act, receives, calls, Event, atNear, atFar, of_first, own_call, all_called}
+use Rattle.link_joined.specs.Pair.{Pair, swap, Act, receives, calls, Event, at_near, at_far, of_first, own_call, all_called}
 use Rattle.link_joined.specs.Pair.{near_acts, after, is_over, run}
 use Rattle.link_joined.specs.Joined.{Promise, AfterAnyRun, NoneRefused, TwoEndsJoined}
 use Rattle.link_joined.proofs.PairLaws.{Live, live_swapped, Kept, kept_swapped, kept_live, kept_promise}
@@ -28,8 +28,8 @@ act_kept (calls c) p kept live = go (token_in c) refl
     go (t ∷ ts) h = kept
 
 event_kept : (e : Event) (p : Pair) → Kept p → Live p → Kept (after e p)
-event_kept (atNear a) p kept live = act_kept a p kept live
-event_kept (atFar a) p kept live = kept_swapped (act_kept a (swap p) (kept_swapped kept) (live_swapped live))
+event_kept (at_near a) p kept live = act_kept a p kept live
+event_kept (at_far a) p kept live = kept_swapped (act_kept a (swap p) (kept_swapped kept) (live_swapped live))
 
 run_kept : (p : Pair) (es : List Event) → Kept p → Kept (run p es)
 unfolding run

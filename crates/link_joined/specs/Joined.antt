@@ -12,7 +12,7 @@ use Rattle.link.specs.declared.LinkState.TheVariants.{Run}
 use Rattle.link_laws.specs.Tokens.{fcts_on, n_chars_on}
 use Rattle.link_laws.specs.Calls.{tick, send, take, put}
 use Rattle.link_laws.specs.Cases.{link_start}
-use Rattle.link_joined.specs.Pair.{Node, Pair, Act, receives, calls, Event, atNear, atFar, is_over, run, start}
+use Rattle.link_joined.specs.Pair.{Node, Pair, Act, receives, calls, Event, at_near, at_far, is_over, run, start}
 
 -- "the sender's credit, plus eight for each FCT on its way to it, plus the N-Chars on their way from it"
 abbrev pub under_way : Node → Node → ℕ
@@ -70,7 +70,7 @@ pub record NoneRefused (p : Pair) : Type 0 where
 -- One run, of stores of nine places: both ends go to Ready, then with LinkStart to Started, Connecting and Run; each sends a
 -- packet, and the other host takes it.
 abbrev pub at_both : Act → List Event
-at_both a = atNear a ∷ atFar a ∷ []
+at_both a = at_near a ∷ at_far a ∷ []
 
 abbrev pub repeated : ℕ → List Event → List Event
 repeated zero es = []
@@ -83,7 +83,7 @@ both_run =
 
 abbrev pub packets_pass : List Event
 packets_pass =
-    atNear (calls (put 65)) ∷ atNear (calls (put EOP)) ∷ atFar (calls (put 66)) ∷ atFar (calls (put EOP))
+    at_near (calls (put 65)) ∷ at_near (calls (put EOP)) ∷ at_far (calls (put 66)) ∷ at_far (calls (put EOP))
     ∷ repeated 2 (at_both (calls send) ++ at_both receives) ++ repeated 2 (at_both (calls take))
 
 abbrev pub nine_places : Node

@@ -49,7 +49,7 @@ pub data Act : Type 0 where
 
 -- "Under any mix of events"
 pub data Event : Type 0 where
-  atNear atFar : Act → Event
+  at_near at_far : Act → Event
 
 -- the call with the token that arrives first; where none has arrived there is nothing to call with
 abbrev pub of_first : List Token → List Call
@@ -130,8 +130,8 @@ near_acts a p = all_called p (made a p.far.wire)
 
 -- what happens at the far end is what happens at the near end, seen from the other side
 abbrev pub after : Event → Pair → Pair
-after (atNear a) p = near_acts a p
-after (atFar a) p = swap (near_acts a (swap p))
+after (at_near a) p = near_acts a p
+after (at_far a) p = swap (near_acts a (swap p))
 
 -- "until either goes back to ErrorReset": the event by which it does is the last that is counted
 abbrev pub is_down : Node → Bool

@@ -3,7 +3,7 @@
 use mathlib.Core.Path.{◌≡◌, refl, sym, ap, ◌∙◌}
 use mathlib.Core.List.{List, [], ◌∷◌, ◌++◌, append_assoc, append-nil}
 use Prim.Native.Nat.{ℕ}
-use Rattle.link_laws.specs.NothingLost.{Fate, wentOn, thrownAway, Entry, numbers, goes_on, onward, thrown}
+use Rattle.link_laws.specs.NothingLost.{Fate, WentOn, ThrownAway, Entry, numbers, goes_on, onward, thrown}
 use Rattle.link_laws.specs.NothingLost.{Accounted}
 
 -- some leave from the front, all with one fate
@@ -16,16 +16,16 @@ all_numbers fate [] = refl
 all_numbers fate (n ∷ ns) = ap (λ (ms : List ℕ). n ∷ ms) (all_numbers fate ns)
 
 all_onward : (fate : Fate) (ns : List ℕ) → onward (all_to fate ns) ≡ goes_on fate ns []
-all_onward wentOn [] = refl
-all_onward wentOn (n ∷ ns) = ap (λ (ms : List ℕ). n ∷ ms) (all_onward wentOn ns)
-all_onward thrownAway [] = refl
-all_onward thrownAway (n ∷ ns) = all_onward thrownAway ns
+all_onward WentOn [] = refl
+all_onward WentOn (n ∷ ns) = ap (λ (ms : List ℕ). n ∷ ms) (all_onward WentOn ns)
+all_onward ThrownAway [] = refl
+all_onward ThrownAway (n ∷ ns) = all_onward ThrownAway ns
 
 all_thrown : (fate : Fate) (ns : List ℕ) → thrown (all_to fate ns) ≡ goes_on fate [] ns
-all_thrown wentOn [] = refl
-all_thrown wentOn (n ∷ ns) = all_thrown wentOn ns
-all_thrown thrownAway [] = refl
-all_thrown thrownAway (n ∷ ns) = ap (λ (ms : List ℕ). n ∷ ms) (all_thrown thrownAway ns)
+all_thrown WentOn [] = refl
+all_thrown WentOn (n ∷ ns) = all_thrown WentOn ns
+all_thrown ThrownAway [] = refl
+all_thrown ThrownAway (n ∷ ns) = ap (λ (ms : List ℕ). n ∷ ms) (all_thrown ThrownAway ns)
 
 numbers_append : (xs ys : List Entry) → numbers (xs ++ ys) ≡ numbers xs ++ numbers ys
 numbers_append [] ys = refl
@@ -37,8 +37,8 @@ onward_append (x ∷ xs) ys = go x.fate (onward_append xs ys)
   where
     go : (f : Fate) → onward (xs ++ ys) ≡ onward xs ++ onward ys →
         goes_on f (x.nchar ∷ onward (xs ++ ys)) (onward (xs ++ ys)) ≡ goes_on f (x.nchar ∷ onward xs) (onward xs) ++ onward ys
-    go wentOn e = ap (λ (ns : List ℕ). x.nchar ∷ ns) e
-    go thrownAway e = e
+    go WentOn e = ap (λ (ns : List ℕ). x.nchar ∷ ns) e
+    go ThrownAway e = e
 
 thrown_append : (xs ys : List Entry) → thrown (xs ++ ys) ≡ thrown xs ++ thrown ys
 thrown_append [] ys = refl
@@ -46,22 +46,22 @@ thrown_append (x ∷ xs) ys = go x.fate (thrown_append xs ys)
   where
     go : (f : Fate) → thrown (xs ++ ys) ≡ thrown xs ++ thrown ys →
         goes_on f (thrown (xs ++ ys)) (x.nchar ∷ thrown (xs ++ ys)) ≡ goes_on f (thrown xs) (x.nchar ∷ thrown xs) ++ thrown ys
-    go wentOn e = e
-    go thrownAway e = ap (λ (ns : List ℕ). x.nchar ∷ ns) e
+    go WentOn e = e
+    go ThrownAway e = ap (λ (ns : List ℕ). x.nchar ∷ ns) e
 
 -- of one change: what went on stood before what was thrown away
 pub account : (went away : List ℕ) {before entered after : List ℕ} → before ++ entered ≡ went ++ (away ++ after) →
     Accounted before entered after went away
 account went away {after = after} e =
-    let on : List Entry = all_to wentOn went in
-    let off : List Entry = all_to thrownAway away in
+    let on : List Entry = all_to WentOn went in
+    let off : List Entry = all_to ThrownAway away in
     let all : numbers (on ++ off) ≡ went ++ away =
-    numbers_append on off ∙ rw (all_numbers wentOn went, all_numbers thrownAway away) in
+    numbers_append on off ∙ rw (all_numbers WentOn went, all_numbers ThrownAway away) in
     record {
       journal = on ++ off;
       in_order = e ∙ sym (ap (λ (ns : List ℕ). ns ++ after) all ∙ append_assoc went away after);
-      went_on = onward_append on off ∙ rw (all_onward wentOn went, all_onward thrownAway away) (append-nil went);
-      thrown_away = thrown_append on off ∙ rw (all_thrown wentOn went, all_thrown thrownAway away);
+      went_on = onward_append on off ∙ rw (all_onward WentOn went, all_onward ThrownAway away) (append-nil went);
+      thrown_away = thrown_append on off ∙ rw (all_thrown WentOn went, all_thrown ThrownAway away);
     }
 
 -- one change after the other

@@ -34,14 +34,14 @@ Whole [] = Unit {0}
 Whole (t ∷ ts) = (bad_char t ≡ false) × Whole ts
 
 -- of the two marks of NULL, the credits and what waits in both stores, before and after
-pub record Passing (late sentNull sentNull' got_null gotNull' : Bool) (c c' : Credit) (tx tx' rx rx' : List ℕ)
+pub record Passing (late sent_null sent_null' got_null got_null' : Bool) (c c' : Credit) (tx tx' rx rx' : List ℕ)
     (heard sent : List Token) (puts takes : List ℕ) : Type 0 where
   pub held : c.held.0 + 8 * fcts_on heard ≡ c'.held.0 + length (n_chars_on sent)
   pub given : c.given.0 + 8 * fcts_on sent ≡ c'.given.0 + length (n_chars_on heard)
   pub transmit : tx ++ puts ≡ n_chars_on sent ++ tx'
   pub receive : rx ++ n_chars_on heard ≡ takes ++ rx'
-  pub opens : Opens late sentNull sentNull' sent
-  pub hears : Hears got_null gotNull' heard
+  pub opens : Opens late sent_null sent_null' sent
+  pub hears : Hears got_null got_null' heard
   pub whole : Whole sent
 
 -- from one end to another: the tokens heard and sent, and what the host put and took

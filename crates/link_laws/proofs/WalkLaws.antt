@@ -115,13 +115,13 @@ pub data Happened (e : End) : Call → Reply → Type 0 where
 module _ (e : End) (g : Good e) (time : Time) where
   -- those that test the record and both stores are not refused; and a tick, a fault and a control change sends and hears
   -- nothing before the move
-  module _ (c : Call) (this : Event) (isOne : IsEvent e c this []) where
+  module _ (c : Call) (this : Event) (is_one : IsEvent e c this []) where
     settles_happened : (l : Link) → Effected this e (with_link e l) [] [] →
         Happened e c
         (settled_reply (pick (eqb (both e) 0) (accepted (settles this (with_link e l))) (refused e (both e))) e time)
     unfolding accepted answered replied
     settles_happened l f =
-        rw (good_passes e g) (event c this (with_link e l) Silence [] time false isOne f)
+        rw (good_passes e g) (event c this (with_link e l) Silence [] time false is_one f)
 
   send_happened : Happened e send (reply e time send)
   unfolding send_outcome dispatched dispatch_of replied_to_send

@@ -18,7 +18,7 @@ use Rattle.link_laws.specs.Calls.{Call, token_in, is_reset, if_accepted, Turn, t
 
 -- An N-Char that left a store went on, sent or taken by the host, or was thrown away: discarded, or emptied by a reset.
 pub data Fate : Type 0 where
-  wentOn thrownAway : Fate
+  WentOn ThrownAway : Fate
 
 pub record Entry : Type 0 where
   pub nchar : ℕ
@@ -29,8 +29,8 @@ numbers [] = []
 numbers (x ∷ xs) = x.nchar ∷ numbers xs
 
 abbrev pub goes_on : Fate → List ℕ → List ℕ → List ℕ
-goes_on wentOn this that = this
-goes_on thrownAway this that = that
+goes_on WentOn this that = this
+goes_on ThrownAway this that = that
 
 -- those that went on, and those that were thrown away
 abbrev pub onward : List Entry → List ℕ

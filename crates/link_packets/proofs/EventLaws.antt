@@ -20,23 +20,23 @@ use Rattle.link_packets.proofs.MoveMarks.{Recovers, unmoved, fallen, recovered}
 use Rattle.link_packets.proofs.HoldLaws.{Holds, hold_effect, hold_fall}
 
 abbrev pub HoldsAt : Bool → Stretches → Stretches → List ℕ → List ℕ → End → Type 0
-HoldsAt was got out taken handedIn e = Holds was got out taken handedIn (rx_waits e) (tx_waits e) e.link.marks
+HoldsAt was got out taken handed_in e = Holds was got out taken handed_in (rx_waits e) (tx_waits e) e.link.marks
 
-module _ {was : Bool} {got out : Stretches} {taken handedIn : List ℕ} where
+module _ {was : Bool} {got out : Stretches} {taken handed_in : List ℕ} where
   -- while puts are discarded nothing waits to be sent
-  pub none_waits : (e : End) → HoldsAt was got out taken handedIn e → NoneWaits e
+  pub none_waits : (e : End) → HoldsAt was got out taken handed_in e → NoneWaits e
   none_waits e h discarding =
       ((append-eq-nil_iff {p = out.present} {q = tx_waits e}).0 (h.transmit.none_since discarding)).1
 
   -- the effect of an event
   pub effect_holds : {this : Event} {heard sent : List Token} (e mid : End) → Effected this e mid heard sent →
-      HoldsAt was got out taken handedIn e →
-      HoldsAt was (carrying got (n_chars_on heard)) (carrying out (n_chars_on sent)) taken handedIn mid
+      HoldsAt was got out taken handed_in e →
+      HoldsAt was (carrying got (n_chars_on heard)) (carrying out (n_chars_on sent)) taken handed_in mid
   effect_holds {heard = heard} {sent = sent} e mid f h =
-      let after : Holds was (carrying got (n_chars_on heard)) (carrying out (n_chars_on sent)) taken handedIn
+      let after : Holds was (carrying got (n_chars_on heard)) (carrying out (n_chars_on sent)) taken handed_in
       (rx_waits e ++ n_chars_on heard) (tx_waits mid) (marks_after (n_chars_on sent) (n_chars_on heard) e.link.marks) =
       hold_effect (n_chars_on sent) (n_chars_on heard)
-      (subst (λ (tx : List ℕ). Holds was got out taken handedIn (rx_waits e) tx e.link.marks)
+      (subst (λ (tx : List ℕ). Holds was got out taken handed_in (rx_waits e) tx e.link.marks)
       (sym (append-nil (tx_waits e)) ∙ f.passes.transmit) h) in
       rw (← f.passes.receive, f.same_marks) after
 
@@ -48,10 +48,10 @@ Change e s =
 abbrev ended_if : Bool → Stretches → Stretches
 ended_if b s = pick b (ending s) s
 
-module _ {was : Bool} {got out : Stretches} {taken handedIn : List ℕ} where
+module _ {was : Bool} {got out : Stretches} {taken handed_in : List ℕ} where
   -- and its move
-  pub move_holds : (e : End) (s : Settled) → Moves e s → Recovers e s → HoldsAt was got out taken handedIn e →
-      HoldsAt was (ended_if (fell e (moved e s)) got) (ended_if (fell e (moved e s)) out) taken handedIn (moved e s)
+  pub move_holds : (e : End) (s : Settled) → Moves e s → Recovers e s → HoldsAt was got out taken handed_in e →
+      HoldsAt was (ended_if (fell e (moved e s)) got) (ended_if (fell e (moved e s)) out) taken handed_in (moved e s)
   move_holds e s move (unmoved up same none) h =
       let change : Change e s = move.change (none_waits e h) in
       let none_away : change.away ≡ [] = sym (take_at change.away [] 0 (change.counted ∙ none)) in
@@ -64,7 +64,7 @@ module _ {was : Bool} {got out : Stretches} {taken handedIn : List ℕ} where
       let left : tx_waits e ≡ change.away ++ tx_waits (moved e s) =
       sym (append-nil (tx_waits e)) ∙ change.transmit in
       let eep : rx_waits e ++ eep_if e.link.marks.stored ≡ rx_waits (moved e s) = rw down at change.receive in
-      let after : Holds was (ending got) (ending out) taken handedIn (rx_waits e ++ eep_if e.link.marks.stored)
+      let after : Holds was (ending got) (ending out) taken handed_in (rx_waits e ++ eep_if e.link.marks.stored)
       (tx_waits (moved e s)) (recovered (tx_waits e) e.link.marks) =
       hold_fall (tx_waits (moved e s)) change.away left (change.counted ∙ discards) h in
       rw (down, same, ← eep) after

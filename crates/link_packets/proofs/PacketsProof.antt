@@ -20,24 +20,24 @@ use Rattle.link_packets.proofs.TransmitLaws.{shares_then, then_sent, then_put, t
 use Rattle.link_packets.proofs.EventLaws.{HoldsAt}
 use Rattle.link_packets.proofs.StepLaws.{step_holds}
 
-all_hold : {was : Bool} {got out : Stretches} {taken handedIn : List ℕ} (e : End) (ts : List Turn) → Good e →
-    HoldsAt was got out taken handedIn e →
+all_hold : {was : Bool} {got out : Stretches} {taken handed_in : List ℕ} (e : End) (ts : List Turn) → Good e →
+    HoldsAt was got out taken handed_in e →
     HoldsAt (was || reset_among e ts) (stretches received_by got e ts) (stretches sent_by out e ts)
-    (taken ++ gathered taken_by e ts) (handedIn ++ gathered put_by e ts) (end_after e ts)
+    (taken ++ gathered taken_by e ts) (handed_in ++ gathered put_by e ts) (end_after e ts)
 unfolding end_after gathered stretches reset_among
-all_hold {was} {taken = taken} {handedIn = handedIn} e [] g h = rw (or-false was, append-nil taken, append-nil handedIn) h
-all_hold {was} {got} {out} {taken} {handedIn} e (t ∷ ts) g h =
+all_hold {was} {taken = taken} {handed_in = handed_in} e [] g h = rw (or-false was, append-nil taken, append-nil handed_in) h
+all_hold {was} {got} {out} {taken} {handed_in} e (t ∷ ts) g h =
     let rest : End = (turned e t).end in
     let later : HoldsAt (was || reset_by e t || reset_among rest ts)
     (stretches received_by (longer got (received_by e t) (returns e t)) rest ts)
     (stretches sent_by (longer out (sent_by e t) (returns e t)) rest ts)
-    (taken ++ taken_by e t ++ gathered taken_by rest ts) (handedIn ++ put_by e t ++ gathered put_by rest ts) (end_after rest ts) =
+    (taken ++ taken_by e t ++ gathered taken_by rest ts) (handed_in ++ put_by e t ++ gathered put_by rest ts) (end_after rest ts) =
     all_hold {was = was || reset_by e t} {got = longer got (received_by e t) (returns e t)}
-    {out = longer out (sent_by e t) (returns e t)} {taken = taken ++ taken_by e t} {handedIn = handedIn ++ put_by e t} rest ts (accounts e g t.time t.call).good (step_holds e h g (happened e g t.time t.call)) in
+    {out = longer out (sent_by e t) (returns e t)} {taken = taken ++ taken_by e t} {handed_in = handed_in ++ put_by e t} rest ts (accounts e g t.time t.call).good (step_holds e h g (happened e g t.time t.call)) in
     rw (
       ← or_assoc was (reset_by e t) (reset_among rest ts),
       ← append_assoc taken (taken_by e t) (gathered taken_by rest ts),
-      ← append_assoc handedIn (put_by e t) (gathered put_by rest ts),
+      ← append_assoc handed_in (put_by e t) (gathered put_by rest ts),
     )
     later
 

@@ -42,39 +42,39 @@ use Rattle.link_packets.proofs.EventLaws.{HoldsAt, none_waits, effect_holds, mov
 abbrev ends_at : End → Call → Reply → Bool
 ends_at e c r = is_reset c && eqb r.refusal 0 || fell e r.end
 
-module _ {was : Bool} {got out : Stretches} {taken handedIn : List ℕ} (e : End)
-    (h : HoldsAt was got out taken handedIn e) where
+module _ {was : Bool} {got out : Stretches} {taken handed_in : List ℕ} (e : End)
+    (h : HoldsAt was got out taken handed_in e) where
   -- what is to hold after a call
   abbrev After : Call → Reply → Type 0
   After c r =
       HoldsAt (was || is_reset c && eqb r.refusal 0)
       (longer got (if_accepted r.refusal (heard_in e c)) (ends_at e c r))
       (longer out (n_chars_on (tokens_of r.sent)) (ends_at e c r))
-      (taken ++ r.takes) (handedIn ++ r.puts) r.end
+      (taken ++ r.takes) (handed_in ++ r.puts) r.end
 
   -- it stands in one stretch with the call before it
   abbrev down : Bool
   down = is_state e.link.stage.state ErrorReset
 
-  same_stretch : {taken' handedIn' rx tx : List ℕ} {m : Marks} → Holds was got out taken' handedIn' rx tx m →
-      Holds (was || false) (longer got [] (not down && down)) (longer out [] (not down && down)) taken' handedIn' rx tx m
+  same_stretch : {taken' handed_in' rx tx : List ℕ} {m : Marks} → Holds was got out taken' handed_in' rx tx m →
+      Holds (was || false) (longer got [] (not down && down)) (longer out [] (not down && down)) taken' handed_in' rx tx m
   same_stretch k = rw (or-false was, not-and_self down, append-nil got.present, append-nil out.present) k
 
   nothing_holds : (c : Call) (number : ℕ) (time : Time) → eqb number 0 ≡ false → After c (not_done number e time)
   nothing_holds c number time refused =
-      rw (refused, and-false (is_reset c), append-nil taken, append-nil handedIn) (same_stretch h)
+      rw (refused, and-false (is_reset c), append-nil taken, append-nil handed_in) (same_stretch h)
 
   event_holds : {c : Call} {heard : List Token} (this : Event) (mid : End) (sent : Sent) (time : Time) (tick_out : Bool) →
       IsEvent e c this heard → Effected this e mid heard (tokens_of sent) →
       After c (done (moved mid (settles this mid)) (settles this mid).moved.discarded [] sent [] time tick_out)
   event_holds this mid sent time tick_out is f =
-      rw (event_heard is, event_no_reset is, or-false was, append-nil taken, append-nil handedIn, ← f.same_state)
+      rw (event_heard is, event_no_reset is, or-false was, append-nil taken, append-nil handed_in, ← f.same_state)
       (move_holds mid (settles this mid) (settle this mid f.between) (settle_marks this mid f.between)
       (effect_holds e mid f h))
 
   offer_holds : (v : ℕ) (time : Time) → After (offer v) (done (after_offer e v) 0 [] Silence [] time false)
   unfolding offers with_offer
-  offer_holds v time = rw (append-nil taken, append-nil handedIn) (same_stretch h)
+  offer_holds v time = rw (append-nil taken, append-nil handed_in) (same_stretch h)
 
   module _ (g : Good e) where
     take_holds : (time : Time) → empty e.link.rx ≡ false →
@@ -83,7 +83,7 @@ module _ {was : Bool} {got out : Stretches} {taken handedIn : List ℕ} (e : End
     take_holds time some =
         let first : rx_waits e ≡ taken_of e ∷ rx_waits (after_take e) =
         sym (append-nil (rx_waits e)) ∙ (take_hosted e g some).passes.receive in
-        rw (append-nil handedIn)
+        rw (append-nil handed_in)
         (same_stretch
         (record {
           receive =
@@ -104,9 +104,9 @@ module _ {was : Bool} {got out : Stretches} {taken handedIn : List ℕ} (e : End
     put_holds n time small room = go e.link.marks.discarding refl
       where
         at : (d : Bool) → e.link.marks.discarding ≡ d →
-            Transmits was out handedIn (tx_waits e) e.link.marks.sent e.link.marks.put d
+            Transmits was out handed_in (tx_waits e) e.link.marks.sent e.link.marks.put d
         at d k =
-            subst (Transmits was out handedIn (tx_waits e) e.link.marks.sent e.link.marks.put) k h.transmit
+            subst (Transmits was out handed_in (tx_waits e) e.link.marks.sent e.link.marks.put) k h.transmit
 
         go : (d : Bool) → e.link.marks.discarding ≡ d → AfterPut n time
         go true k =
@@ -132,7 +132,7 @@ module _ {was : Bool} {got out : Stretches} {taken handedIn : List ℕ} (e : End
           append-nil got.present,
           append-nil out.present,
           append-nil taken,
-          append-nil handedIn,
+          append-nil handed_in,
           fresh_waits e.tx,
           eep,
         )

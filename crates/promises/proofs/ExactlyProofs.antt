@@ -15,7 +15,7 @@ use Rattle.link.specs.Calls.{control_outcome, reset_outcome, dispatch_of, dispat
 use Rattle.link.specs.Calls.{receipt_of, received, receive_refused, token_accepted, receive_outcome, put_answer}
 use Rattle.link.specs.Calls.{take_accepted, take_refused, take_answer, offer_accepted, offer_answer}
 use Rattle.link.specs.Records.{Answer, Dispatch, Receipt, Taken}
-use Rattle.router.specs.Calls.{Put, puts, Took, took_one, takes, Run, told as routerTold, runs, reads_row}
+use Rattle.router.specs.Calls.{Put, puts, Took, took_one, takes, Run, told as router_told, runs, reads_row}
 use Rattle.router.specs.Held.{held_through, held_refused, still_held}
 use Rattle.router.specs.Records.{RowRead, StillHeld}
 use Rattle.promises.specs.Exactly.{RefusedExactly}
@@ -33,7 +33,7 @@ unfolding
     encode_answer sent encode_refused bit_answer tick_answer decode_accepted decode_refused refused_with answered accepted refused
     tick_outcome fault_outcome control_outcome reset_outcome dispatch_of dispatched send_refused send_outcome receipt_of received
     receive_refused token_accepted receive_outcome put_answer take_accepted take_refused take_answer offer_accepted offer_answer
-    puts took_one takes routerTold runs reads_row held_through held_refused still_held
+    puts took_one takes router_told runs reads_row held_through held_refused still_held
 refused_exactly =
     record {
       encode = λ e t. record { first = told (λ (a : Encoded). a.refusal) _ _ _ refl refl; ordered = refl };

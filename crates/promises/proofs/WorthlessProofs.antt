@@ -25,7 +25,7 @@ use Rattle.time.specs.Time.{fresh_time, time_after}
 use Rattle.characters.specs.Calls.{encode_refused, encode_answer, decode_refused, decode_accepted, bit_answer, tick_answer}
 use Rattle.characters.specs.Decoder.{goes_on, stops, hunts, flagged, data_bit, silence}
 use Rattle.characters.specs.DecoderWords.{waiting_of, decoder_from, decoder_of, is_good_as, is_good, decoded, no_decoder}
-use Rattle.characters.specs.DecoderWords.{bit_left, tick_left as decoderTickLeft}
+use Rattle.characters.specs.DecoderWords.{bit_left, tick_left as decoder_tick_left}
 use Rattle.characters.specs.Encoder.{fresh_encoder, sent}
 use Rattle.characters.specs.EncoderWords.{encoder_of, encoded, no_encoder, encode_left}
 use Rattle.link.specs.Calls.{refused_with, answered, accepted, refused, tick_outcome, fault_outcome, control_outcome}
@@ -61,11 +61,11 @@ use Rattle.router_rounds.specs.Addresses.{waits, reads, addresses, part1}
 use Rattle.router_rounds.specs.Grants.{cyclic, candidates, first_that, granted, grants, part2}
 use Rattle.router_rounds.specs.Moves.{frees, carries, moves, moves_one, spills, spills_one, sends, part3}
 use Rattle.router_rounds.specs.Rounds.{begun, round, rounds}
-use Rattle.router.specs.Calls.{puts as routerPuts, took_one, takes as routerTakes, told, runs, writes_row, reads_row}
+use Rattle.router.specs.Calls.{puts as router_puts, took_one, takes as router_takes, told, runs, writes_row, reads_row}
 use Rattle.router.specs.Held.{set_of, wanted_by, unread, sets_of, nothing_held, held_through, held_refused, still_held}
 use Rattle.router.specs.HeldCalls.{held_words, asked, held_left}
-use Rattle.router.specs.RouterCalls.{no_router, put as routerPut, put_left as routerPutLeft, took}
-use Rattle.router.specs.RouterCalls.{take_left as routerTakeLeft, ran, run_left, table_left, row_left}
+use Rattle.router.specs.RouterCalls.{no_router, put as puts_router, put_left as router_put_left, took}
+use Rattle.router.specs.RouterCalls.{take_left as router_take_left, ran, run_left, table_left, row_left}
 use Rattle.promises.specs.Promises.{Build, BreaksAt, Bit, Tick, RouterRun}
 use Rattle.promises.specs.Worthless.{RefusingAll, SaysOnlyNull, bit14, StaysInErrorReset, tick64, IdleLater}
 use Rattle.promises.specs.Worthless.{to_output3, Inventing, WorthlessBuildsShutOut, null_for, WorthlessBuilds}
@@ -74,7 +74,7 @@ refusing_all : RefusingAll
 unfolding
     token_of same fresh_store put_store put_places dropped found_in found through_end holds_end standing store_of fresh_time
     time_after encode_refused encode_answer decode_refused decode_accepted bit_answer tick_answer goes_on stops hunts flagged
-    data_bit silence waiting_of decoder_from decoder_of is_good_as is_good decoded no_decoder bit_left decoderTickLeft
+    data_bit silence waiting_of decoder_from decoder_of is_good_as is_good decoded no_decoder bit_left decoder_tick_left
     fresh_encoder sent encoder_of encoded no_encoder encode_left refused_with answered accepted refused tick_outcome
     fault_outcome control_outcome reset_outcome dispatch_of dispatched send_refused send_outcome receipt_of received
     receive_refused token_accepted receive_outcome put_answer put_places_after take_accepted take_refused take_answer
@@ -89,9 +89,9 @@ unfolding
     fresh_router with_mode with_output with_store bad_ports bad_stores listed router_words wanted_of mode_of input_in output_in
     router_of with_mode_in with_output_in with_store_in without_front_in with_behind_in changed_to count_moved count_error
     count_round waits reads addresses part1 cyclic candidates first_that granted grants part2 frees carries moves
-    moves_one spills spills_one sends part3 begun round rounds routerPuts took_one routerTakes told runs writes_row
+    moves_one spills spills_one sends part3 begun round rounds router_puts took_one router_takes told runs writes_row
     reads_row set_of wanted_by unread sets_of nothing_held held_through held_refused still_held held_words asked held_left
-    no_router routerPut routerPutLeft took routerTakeLeft ran run_left table_left row_left
+    no_router puts_router router_put_left took router_take_left ran run_left table_left row_left
 refusing_all =
     record {
       encode = λ build refuses κs kept. refuses κs _ (ap (λ (left : Left). left.refusal) kept);
@@ -118,7 +118,7 @@ saying_null : (build : Build Bit) → SaysOnlyNull build → BreaksAt Bit bit14 
 unfolding
     token_of same fresh_store put_store put_places dropped found_in found through_end holds_end standing store_of fresh_time
     time_after encode_refused encode_answer decode_refused decode_accepted bit_answer tick_answer goes_on stops hunts flagged
-    data_bit silence waiting_of decoder_from decoder_of is_good_as is_good decoded no_decoder bit_left decoderTickLeft
+    data_bit silence waiting_of decoder_from decoder_of is_good_as is_good decoded no_decoder bit_left decoder_tick_left
     fresh_encoder sent encoder_of encoded no_encoder encode_left
 saying_null build null κs kept =
     let kind = ap (λ (left : Left). word_at left.out 0) kept in
@@ -144,7 +144,7 @@ inventing : Inventing
 unfolding
     token_of same fresh_store put_store put_places dropped found_in found through_end holds_end standing store_of fresh_time
     time_after encode_refused encode_answer decode_refused decode_accepted bit_answer tick_answer goes_on stops hunts flagged
-    data_bit silence waiting_of decoder_from decoder_of is_good_as is_good decoded no_decoder bit_left decoderTickLeft
+    data_bit silence waiting_of decoder_from decoder_of is_good_as is_good decoded no_decoder bit_left decoder_tick_left
     fresh_encoder sent encoder_of encoded no_encoder encode_left refused_with answered accepted refused tick_outcome
     fault_outcome control_outcome reset_outcome dispatch_of dispatched send_refused send_outcome receipt_of received
     receive_refused token_accepted receive_outcome put_answer put_places_after take_accepted take_refused take_answer
@@ -159,9 +159,9 @@ unfolding
     fresh_router with_mode with_output with_store bad_ports bad_stores listed router_words wanted_of mode_of input_in output_in
     router_of with_mode_in with_output_in with_store_in without_front_in with_behind_in changed_to count_moved count_error
     count_round waits reads addresses part1 cyclic candidates first_that granted grants part2 frees carries moves
-    moves_one spills spills_one sends part3 begun round rounds routerPuts took_one routerTakes told runs writes_row
+    moves_one spills spills_one sends part3 begun round rounds router_puts took_one router_takes told runs writes_row
     reads_row set_of wanted_by unread sets_of nothing_held held_through held_refused still_held held_words asked held_left
-    no_router routerPut routerPutLeft took routerTakeLeft ran run_left table_left row_left
+    no_router puts_router router_put_left took router_take_left ran run_left table_left row_left
 inventing =
     record {
       put = λ build other κs kept. other κs (ap (λ (left : LinkLeft). word_at left.out 0) kept);
@@ -179,9 +179,9 @@ unfolding
     with_output with_store bad_ports bad_stores listed router_words wanted_of mode_of input_in output_in router_of with_mode_in
     with_output_in with_store_in without_front_in with_behind_in changed_to count_moved count_error count_round waits reads
     addresses part1 cyclic candidates first_that granted grants part2 frees carries moves moves_one spills spills_one
-    sends part3 begun round rounds routerPuts took_one routerTakes told runs writes_row reads_row set_of wanted_by unread
-    sets_of nothing_held held_through held_refused still_held held_words asked held_left no_router routerPut routerPutLeft
-    took routerTakeLeft ran run_left table_left row_left
+    sends part3 begun round rounds router_puts took_one router_takes told runs writes_row reads_row set_of wanted_by unread
+    sets_of nothing_held held_through held_refused still_held held_words asked held_left no_router puts_router router_put_left
+    took router_take_left ran run_left table_left row_left
 idle_later build idles κs kept =
     absurd (omega (
       arith,

@@ -17,9 +17,9 @@ use Rattle.link.specs.declared.FaultKind.{FaultKind}
 use Rattle.link.specs.Records.{Link}
 use Rattle.router_ports.specs.Places.{Machine}
 use Rattle.router_ports.specs.Records.{Router as RouterState}
-use Rattle.router.specs.Refusals.{put_tests as routerPutTests, take_tests as routerTakeTests}
-use Rattle.router.specs.Refusals.{run_tests as routerRunTests, row_tests as routerRowTests}
-use Rattle.router.specs.Refusals.{held_tests as routerHeldTests}
+use Rattle.router.specs.Refusals.{put_tests as router_put_tests, take_tests as router_take_tests}
+use Rattle.router.specs.Refusals.{run_tests as router_run_tests, row_tests as router_row_tests}
+use Rattle.router.specs.Refusals.{held_tests as router_held_tests}
 use Rattle.router.specs.Calls.{puts, takes, runs, reads_row}
 use Rattle.router.specs.Held.{still_held}
 
@@ -46,10 +46,10 @@ pub record RefusedExactly : Type 0 where
   pub put : (size : ℕ) (l : Link) (n : ℕ) → Exactly (put_answer size l n).refusal (put_tests size l n)
   pub take : (rx : List ℕ) (l : Link) → Exactly (take_answer rx l).refusal (take_tests (length rx) l)
   pub offer : (l : Link) (v : ℕ) → Exactly (offer_answer l v).refusal (offer_tests l)
-  pub router_put : (x : Machine) (port n : ℕ) → Exactly (puts x port n).refusal (routerPutTests x port n)
-  pub router_take : (x : Machine) (port : ℕ) → Exactly (takes x port).refusal (routerTakeTests x port)
+  pub router_put : (x : Machine) (port n : ℕ) → Exactly (puts x port n).refusal (router_put_tests x port n)
+  pub router_take : (x : Machine) (port : ℕ) → Exactly (takes x port).refusal (router_take_tests x port)
   pub router_run : (x : Machine) (table : List ℕ) (limit : ℕ) →
-      Exactly (runs x table limit).refusal (routerRunTests x limit)
+      Exactly (runs x table limit).refusal (router_run_tests x limit)
   pub router_read : (s : RouterState) (table : List ℕ) (row : ℕ) →
-      Exactly (reads_row s table row).refusal (routerRowTests s row)
-  pub router_held : (s : RouterState) (port : ℕ) → Exactly (still_held s port).refusal (routerHeldTests s port)
+      Exactly (reads_row s table row).refusal (router_row_tests s row)
+  pub router_held : (s : RouterState) (port : ℕ) → Exactly (still_held s port).refusal (router_held_tests s port)
