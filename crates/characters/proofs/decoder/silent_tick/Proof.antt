@@ -2,7 +2,8 @@
 -- Assumes nothing.
 use borrow.Author.Rules.{rules}
 use mathlib.Core.Path.{◌≡◌, refl}
-use Prim.Native.Nat.{ℕ}
+use Prim.Native.Nat.{ℕ, ◌<◌, ◌≤◌}
+use native.Mathlib.Omega.{arith}
 use lib.ListN.{get_or, set}
 use borrow.Author.Tests.{lt-ltb, le-ltb}
 use Rattle.characters.specs.States.{Phase, Hunting, Between, Parity, Data, Control, Second}
@@ -31,12 +32,12 @@ silent_tick_spec =
     (λ c κs. search rules)
     (λ c κs. search rules)
     (λ c κs. search rules)
-    (λ c. λ p s shape. let tested = c.before.before in
-    let taken = tested.before.before.if-good.true in
-    let few = rw (shape taken, (counts p s 0).0) at tested.if-silent-lt-MOST_SILENT.true in
+    (λ c. λ p s shape. let taken = c.if-good.true in
+    let seen : get_or c.args.words.now silent_at 0 ≡ s = rw (shape taken) (counts p s 0).0 in
+    let few : s < 8 = omega (arith, seen) in
     rw (shape taken, taken, (counts p s 0).0, (counts p s _).1, lt-ltb _ _ few, c.stay.ensures.0, c.stay.ensures.1))
-    (λ c. λ p s shape. let tested = c.before.before.before in
-    let taken = tested.before.before.if-good.true in
-    let many = rw (shape taken, (counts p s 0).0) at tested.if-silent-lt-MOST_SILENT.false in
-    rw (c.before.stop.ensures, taken, le-ltb _ _ many))
-    (λ c. λ p s shape. rw (c.before.before.if-good.false, c.stay-else-good.ensures.0, c.stay-else-good.ensures.1)))
+    (λ c. λ p s shape. let taken = c.if-good.true in
+    let seen : get_or c.args.words.now silent_at 0 ≡ s = rw (shape taken) (counts p s 0).0 in
+    let many : 8 ≤ s = omega (arith, seen) in
+    rw (c.stop.ensures, taken, le-ltb _ _ many))
+    (λ c. λ p s shape. rw (c.if-good.false, c.stay-else-good.ensures.0, c.stay-else-good.ensures.1)))
