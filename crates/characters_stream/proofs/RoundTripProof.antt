@@ -10,7 +10,7 @@ use borrow.Author.Tests.{lt-ltb, le-ltb}
 use Rattle.vocabulary.specs.Tokens.{bad_char}
 use Rattle.vocabulary.specs.declared.Token.{Token}
 use Rattle.vocabulary.specs.declared.Token.TheVariants.{Null, Fct, NChar, TimeCode}
-use Rattle.characters.specs.Bits.{odd, bits_of}
+use Rattle.characters.specs.Bits.{bits_of}
 use Rattle.characters.specs.Wire.{Character, data8, fct as fct_character, esc as esc_character, parity_bit, good_parity}
 use Rattle.characters.specs.Wire.{n_char_character, characters_of, wire, last_odd, wire_of}
 use Rattle.characters.specs.Encoder.{fresh_encoder, sent}

@@ -9,13 +9,11 @@ use lib.ListN.{length}
 use lib.Dec.{eqb}
 use borrow.Author.Tests.{eq-eqb, ne_eqb, eqb-true}
 use Rattle.vocabulary.specs.Choice.{pick}
-use Rattle.vocabulary.specs.Refusals.{STATE, STORE, CHAR, number}
-use Rattle.vocabulary.specs.Tokens.{bad_char}
+use Rattle.vocabulary.specs.Refusals.{STATE, number}
 use Rattle.vocabulary.specs.declared.Token.{Token}
 use Rattle.words.specs.Words.{narrow, truth_word}
 use Rattle.words.specs.Arguments.{token_of}
 use Rattle.words.proofs.SameLaws.{same_is}
-use Rattle.store.specs.Ring.{bad_store}
 use Rattle.link.specs.Ends.{Settled}
 use Rattle.link.specs.declared.Event.TheVariants.{Quiet}
 use Rattle.link.specs.declared.Sent.{Sent}
@@ -26,8 +24,8 @@ use Rattle.link.specs.Received.{token_effect, token_places}
 use Rattle.time.specs.Time.{bad_time}
 use Rattle.link.specs.Recovery.{settles}
 use Rattle.link.specs.Send.{sent_kind, sent_value, sending}
-use Rattle.link.specs.Refusals.{bad_record, bad_rx_size, bad_tx_size, bad_receive, both_refusal, receive_refusal}
-use Rattle.link.specs.Records.{Link, Sending, Effect}
+use Rattle.link.specs.Refusals.{bad_record, both_refusal, receive_refusal}
+use Rattle.link.specs.Records.{Sending, Effect}
 use Rattle.link.specs.LinkWords.{link_words, link_of, is_link, time_words, time_of, is_time}
 use Rattle.link.specs.LinkCalls.{receive_refused, receive_left, receipt_left, no_receipt, ReceiptStays}
 use Rattle.link.specs.LinkCalls.{LinkLeft, StaysWith, answer_left, dispatch_left, send_left, end_of, no_link, both_refused}

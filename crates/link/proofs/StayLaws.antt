@@ -8,7 +8,7 @@ use lib.ListN.{length}
 use lib.Dec.{eqb}
 use Rattle.vocabulary.specs.Choice.{pick}
 use Rattle.vocabulary.specs.declared.Token.{Token}
-use Rattle.words.specs.Words.{Left, Stays}
+use Rattle.words.specs.Words.{Stays}
 use Rattle.words.specs.Arguments.{fitted, no_token, token_of}
 use Rattle.words.proofs.StayLaws.{pick_stays}
 use Rattle.time.specs.Time.{fresh_time}
@@ -16,7 +16,7 @@ use Rattle.time.specs.declared.Time.{Time}
 use Rattle.link.specs.Ends.{End, Settled}
 use Rattle.link.specs.Hosts.{puts, puts_places}
 use Rattle.link.specs.Refusals.{put_refusal, take_refusal, offer_refusal}
-use Rattle.link.specs.Calls.{Outcome, refused_with, answered, accepted, refused, both, tick_outcome, fault_outcome}
+use Rattle.link.specs.Calls.{refused_with, answered, accepted, refused, both, tick_outcome, fault_outcome}
 use Rattle.link.specs.Calls.{control_outcome, reset_outcome, dispatch_of, dispatched, send_refused, send_outcome}
 use Rattle.link.specs.Calls.{receipt_of, received, receive_refused, receiving, token_accepted, receive_outcome}
 use Rattle.link.specs.Calls.{put_answer, put_places_after, take_accepted, take_refused, take_answer, offer_accepted}
@@ -25,7 +25,7 @@ use Rattle.link.specs.Records.{Controls}
 use Rattle.link.specs.declared.Sent.{Sent}
 use Rattle.link.specs.declared.FaultKind.{FaultKind}
 use Rattle.link.specs.declared.FaultKind.TheVariants.{ParityFault, EscapeFault, DisconnectFault}
-use Rattle.link.specs.Records.{Answer, Dispatch, Receipt, Link}
+use Rattle.link.specs.Records.{Link}
 use Rattle.link.specs.LinkWords.{link_words, link_of, is_link, time_words, time_of, is_time}
 use Rattle.link.specs.LinkCalls.{LinkLeft, no_link, end_of, answer_left, tick_left, reset_left, as_answer}
 use Rattle.link.specs.LinkCalls.{numbered_fault, fault_left, control_left, dispatch_left, send_left}

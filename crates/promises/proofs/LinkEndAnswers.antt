@@ -1,6 +1,6 @@
 -- `link`: each promise is an equation with a definition, so two answers that it allows are one.
 -- Assumes nothing.
-use mathlib.Core.Path.{◌≡◌, sym, ap, ◌∙◌}
+use mathlib.Core.Path.{sym, ap, ◌∙◌}
 use Rattle.promises.specs.OneAnswer.{OneResult, OnePlaces}
 use Rattle.words.specs.Words.{Left}
 use Rattle.link.specs.LinkCalls.{LinkLeft, ReceiveLeft}

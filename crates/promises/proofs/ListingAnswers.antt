@@ -1,6 +1,6 @@
 -- `listing`: each promise is an equation with a definition, so two answers that it allows are one.
 -- Assumes nothing.
-use mathlib.Core.Path.{◌≡◌, sym, ◌∙◌}
+use mathlib.Core.Path.{sym, ◌∙◌}
 use Rattle.promises.specs.OneAnswer.{OneResult, OnePlaces}
 use Rattle.listing.proofs.render.Kinds as render_kinds
 use Rattle.listing.proofs.render.Reads as render_reads

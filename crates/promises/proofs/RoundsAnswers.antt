@@ -1,6 +1,6 @@
 -- `rounds`: each promise is an equation with a definition, so two answers that it allows are one.
 -- Assumes nothing.
-use mathlib.Core.Path.{◌≡◌, sym, ap, ◌∙◌}
+use mathlib.Core.Path.{sym, ap, ◌∙◌}
 use Rattle.promises.specs.OneAnswer.{OneResult, OnePlaces}
 use Rattle.router_rounds.specs.Acts.{Tally}
 use Rattle.router_rounds.specs.InWords.{Words}

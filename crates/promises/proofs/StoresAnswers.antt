@@ -1,6 +1,6 @@
 -- `store`: each promise is an equation with a definition, so two answers that it allows are one.
 -- Assumes nothing.
-use mathlib.Core.Path.{◌≡◌, sym, ◌∙◌}
+use mathlib.Core.Path.{sym, ◌∙◌}
 use Rattle.promises.specs.OneAnswer.{OneResult, OnePlaces}
 use Rattle.store.proofs.fresh.Kinds as fresh_kinds
 use Rattle.store.proofs.fresh.Reads as fresh_reads

@@ -1,6 +1,6 @@
 -- `time`: each promise is an equation with a definition, so two answers that it allows are one.
 -- Assumes nothing.
-use mathlib.Core.Path.{◌≡◌, sym, ◌∙◌}
+use mathlib.Core.Path.{sym, ◌∙◌}
 use Rattle.promises.specs.OneAnswer.{OneResult}
 use Rattle.time.proofs.fresh.Kinds as fresh_kinds
 use Rattle.time.proofs.fresh.Reads as fresh_reads

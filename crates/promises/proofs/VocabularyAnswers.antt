@@ -1,6 +1,6 @@
 -- `vocabulary`: each promise is an equation with a definition, so two answers that it allows are one.
 -- Assumes nothing.
-use mathlib.Core.Path.{◌≡◌, sym, ◌∙◌}
+use mathlib.Core.Path.{sym, ◌∙◌}
 use Rattle.promises.specs.OneAnswer.{OneResult}
 use Rattle.vocabulary.proofs.refuse.Kinds as refuse_kinds
 use Rattle.vocabulary.proofs.refuse.Reads as refuse_reads

@@ -1,6 +1,6 @@
 -- `words`: each promise is an equation with a definition, so two answers that it allows are one.
 -- Assumes nothing.
-use mathlib.Core.Path.{◌≡◌, sym, ◌∙◌}
+use mathlib.Core.Path.{sym, ◌∙◌}
 use Rattle.promises.specs.OneAnswer.{OneResult}
 use Rattle.words.proofs.truth.Kinds as truth_kinds
 use Rattle.words.proofs.truth.Reads as truth_reads

@@ -10,7 +10,6 @@ use borrow.Author.Tests.{eqb-true, ltb-false, le-leb}
 use Rattle.vocabulary.specs.Choice.{pick}
 use Rattle.vocabulary.specs.Refusals.{STATE, PORT, Test, test}
 use Rattle.vocabulary.proofs.RefusalLaws.{passed, passed_later}
-use Rattle.store.specs.Ring.{empty}
 use Rattle.store.proofs.RingLaws.{empty_waits}
 use Rattle.router_ports.specs.Ports.{store_at, input_store, output_store}
 use Rattle.router_ports.specs.Places.{Machine, places_at}

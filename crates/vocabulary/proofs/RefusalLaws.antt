@@ -2,8 +2,7 @@
 -- Assumes nothing.
 use mathlib.Core.Path.{◌≡◌, refl}
 use mathlib.Core.Bool.{Bool, true, false}
-use mathlib.Core.List.{List, [], ◌∷◌}
-use Prim.Native.Nat.{ℕ}
+use mathlib.Core.List.{List, ◌∷◌}
 use native.Mathlib.Omega.{arith}
 use Rattle.vocabulary.specs.Refusals.{Refusal, STATE, STORE, PORT, ROW, CHAR, ROUNDS, STOPPED, NOTRUN, EMPTY, FULL, number, Test, test, first_of}
 

@@ -6,7 +6,6 @@ use borrow.Author.Rules.{rules}
 use borrow.Author.Tests.{lt-ltb, le-ltb}
 use Prim.Native.Nat.{ℕ, zero, suc, ◌-◌, ◌/◌, ◌%◌, ◌<◌, ◌≤◌}
 use native.Mathlib.Numerals.{sub-one}
-use native.Mathlib.Omega.{arith}
 use Rattle.listing.specs.Decimal.{digit, decimal_in}
 use Rattle.listing.proofs.WritingLaws.{nothing_written, room_first, room_second, written_both}
 use Rattle.listing.proofs.+put_number.Goals as goal

@@ -1,8 +1,7 @@
 -- `store::store_of` meets its contract.
 -- Assumes nothing.
-use borrow.Author.Rules.{rules}
 use Rattle.store.specs.StoreWords.{store_of}
-use mathlib.Core.Path.{refl, sym, ◌∙◌}
+use mathlib.Core.Path.{refl}
 use Rattle.store.proofs.store_of.Statement.{statement}
 use Rattle.store.proofs.store_of.Tie as tie
 

@@ -1,7 +1,7 @@
 -- `vocabulary::bad_char` meets its contract.
 -- Assumes nothing.
 use borrow.Author.Rules.{rules}
-use mathlib.Core.Path.{refl, sym, ◌∙◌}
+use mathlib.Core.Path.{sym, ◌∙◌}
 use Rattle.vocabulary.proofs.bad_char.Statement.{statement}
 use Rattle.vocabulary.proofs.bad_char.Tie as tie
 

@@ -1,7 +1,5 @@
 -- `vocabulary::read_as` meets its contract.
 -- Assumes nothing.
-use borrow.Author.Rules.{rules}
-use mathlib.Core.Path.{refl, sym, ◌∙◌}
 use borrow.Author.Tests.{le-ltb, lt-ltb}
 use Rattle.vocabulary.proofs.read_as.Statement.{statement}
 use Rattle.vocabulary.proofs.read_as.Tie as tie

@@ -1,7 +1,7 @@
 -- `words::bare` meets its contract.
 -- Assumes nothing.
 use borrow.Author.Rules.{rules}
-use mathlib.Core.Path.{refl, sym, ◌∙◌}
+use mathlib.Core.Path.{sym, ◌∙◌}
 use borrow.Author.Tests.{eq-eqb, ne_eqb}
 use Rattle.words.proofs.bare.Statement.{statement}
 use Rattle.words.proofs.bare.Tie as tie

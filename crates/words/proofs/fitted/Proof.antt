@@ -1,7 +1,6 @@
 -- `words::fitted` meets its contract.
 -- Assumes nothing.
 use borrow.Author.Rules.{rules}
-use mathlib.Core.Path.{refl, sym, ◌∙◌}
 use borrow.Author.Tests.{le-ltb, lt-ltb}
 use Rattle.words.proofs.fitted.Statement.{statement}
 use Rattle.words.proofs.fitted.Tie as tie

@@ -1,7 +1,7 @@
 -- `words::time_code` meets its contract.
 -- Assumes nothing.
 use borrow.Author.Rules.{rules}
-use mathlib.Core.Path.{refl, sym, ◌∙◌}
+use mathlib.Core.Path.{sym, ◌∙◌}
 use borrow.Author.Tests.{le-ltb, lt-ltb}
 use Rattle.words.proofs.time_code.Statement.{statement}
 use Rattle.words.proofs.time_code.Tie as tie
