@@ -1,8 +1,7 @@
-# Sourced by c/test and c/bench: finds the toolchain, builds the archive, compiles, links and runs programs in C.
+# Sourced by c/archive, c/test and c/bench: finds the toolchain, builds the archive, compiles, links and runs programs in C.
 #
-# The archive is x86-64. There the machine's own compiler links it; on Arm no native program can, so the toolchain's
-# compiler and linker build the programs for x86-64 and its emulator runs them. CC says which compiler is taken: a
-# command, or `kit` for the toolchain's own, which works on both.
+# Archive and toolchain are for Linux on x86-64 alone. CC says which compiler is taken: a command, or `kit` for the
+# toolchain's own, with which the programs run under the toolchain's loader and C library.
 set -uo pipefail
 
 fail() {
@@ -17,35 +16,36 @@ machine=$(uname -m)
 
 command -v rt >/dev/null || fail "there is no rt on the path: the Rattle toolchain is needed"
 guide=$(rt doc) || fail "rt does not say where its toolchain is"
-kit=${guide%/docs/*}
-tools=$kit/on/$machine/toolchain
+kit=$(dirname -- "$guide")
+tools=$kit/toolchain
 loader=$tools/lib/ld-linux-x86-64.so.2
-emulator=$tools/bin/qemu-x86_64
-[ -e "$loader" ] || fail "the toolchain at $kit runs no programs on this machine, $machine"
-for word in $(env | sed -n 's/^\(QEMU_[A-Za-z0-9_]*\)=.*/\1/p'); do unset "$word"; done
+[ -e "$loader" ] || fail "the toolchain at $kit has no loader for programs"
+[ "$machine" = x86_64 ] || fail "the archive is for x86_64, and this machine is $machine"
 
-# The compiler that is taken where CC does not say: the machine's own on x86-64, where there is one.
+# The compiler that is taken where CC does not say: the machine's own, where there is one.
 machine_compiler() {
-    if [ "$machine" = x86_64 ]; then
-        for compiler in cc gcc clang; do
-            command -v "$compiler" >/dev/null && echo "$compiler" && return
-        done
-    fi
+    for compiler in cc gcc clang; do
+        command -v "$compiler" >/dev/null && echo "$compiler" && return
+    done
     echo kit
 }
 
-# Proves and builds the archive where it is not up to date. ARCHIVE names another one to take.
+# Proves and builds the archive where it is not up to date. It is as old as the beginning of its build, so that what is
+# changed meanwhile is newer. ARCHIVE names another one to take.
 build_archive() {
     archive=${ARCHIVE:-$root/target/staticlib/libneftolek.a}
     [ -z "${ARCHIVE:-}" ] || return 0
-    if [ -f "$archive" ] &&
-        [ -z "$(find "$root/crates" "$root/crates.txt" "$kit/KIT-ID" -newer "$archive" -print -quit)" ]; then
+    if [ -f "$archive" ] && [ -z "$(find "$root"/crates/*/* "$root/crates.txt" "$kit/KIT-ID" \
+        -name out -prune -o -newer "$archive" -print -quit)" ]; then
         return 0
     fi
-    echo "$name: proving and building the archive with 'rt staticlib neftolek'; from nothing this takes some minutes" >&2
-    mkdir -p "$build"
-    (cd "$root" && rt staticlib neftolek) >"$build/staticlib.log" 2>&1 ||
-        fail "the archive was not built: target/c/staticlib.log says why"
+    echo "$name: proving and building the archive with 'rt lib' in crates/neftolek_c; from nothing this takes some minutes" >&2
+    mkdir -p "$build" "$(dirname -- "$archive")"
+    touch "$build/began"
+    (cd "$root/crates/neftolek_c" && rt lib) >"$build/archive.log" 2>&1 ||
+        fail "the archive was not built: target/c/archive.log says why"
+    cp "$root/crates/neftolek_c/out/libneftolek_c.a" "$archive" && touch -r "$build/began" "$archive" ||
+        fail "the archive cannot be written to $archive"
 }
 
 compile() { # SOURCE OBJECT FLAGS.., the flags say how far it is optimised
@@ -62,7 +62,7 @@ link_program() { # PROGRAM OBJECT..
     local program=$1
     shift
     if [ "$CC" = kit ]; then
-        "$kit/on/$machine/bin/rattle-link" --target x86_64-unknown-linux-gnu --toolchain "$tools" -o "$program" "$@" \
+        "$kit/bin/rattle-link" --target x86_64-unknown-linux-gnu --toolchain "$tools" -o "$program" "$@" \
             "$archive" 2>"$program.log" || fail "$program does not link: $program.log says why"
     else
         "$CC" -o "$program" "$@" "$archive" || fail "$program does not link"
@@ -70,11 +70,9 @@ link_program() { # PROGRAM OBJECT..
 }
 
 run_program() { # PROGRAM WORDS..
-    if [ "$CC" != kit ]; then
-        "$@"
-    elif [ -x "$emulator" ]; then
-        "$emulator" "$loader" --library-path "$tools/lib" "$@"
-    else
+    if [ "$CC" = kit ]; then
         "$loader" --library-path "$tools/lib" "$@"
+    else
+        "$@"
     fi
 }

@@ -1,6 +1,6 @@
 /* Neftolek: SpaceWire characters, link ends and a router of eleven ports, for C and C++.
  *
- * Link with target/staticlib/libneftolek.a (`rt staticlib neftolek` makes it; x86-64). Every call behind this header is
+ * Link with target/staticlib/libneftolek.a (`c/archive` makes it; x86-64). Every call behind this header is
  * proved to do what the specification says, whatever it is handed.
  *
  * The shape of every call:

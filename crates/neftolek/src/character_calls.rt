@@ -7,49 +7,35 @@ ghost use Rattle.characters.specs.EncoderWords.{encoder_words, encode_left};
 
 use characters::{decoder, encoder};
 
-#[unsafe(no_mangle)]
-pub extern "C" fn neftolek_decoder_fresh(state: &mut decoder::Words)
+pub fn neftolek_decoder_fresh(state: &mut decoder::Words)
     ensures { state.new ≡ decoder_words Fresh }
 {
     decoder::fresh(state);
 }
 
 // One bit, any number but 0 for a one: `out` gets the number and the value of the report.
-#[unsafe(no_mangle)]
-pub extern "C" fn neftolek_decoder_bit(
-    state: &mut decoder::Words,
-    bit: u32,
-    out: &mut [u32; 2],
-) -> u32
+pub fn neftolek_decoder_bit(state: &mut decoder::Words, bit: u32, out: &mut [u32; 2]) -> u32
     ensures { record { refusal = result; state = state.new; out = out.new }
         ≡ bit_left state.old bit }
 {
     decoder::bit(state, bit, out)
 }
 
-#[unsafe(no_mangle)]
-pub extern "C" fn neftolek_decoder_tick(state: &mut decoder::Words, out: &mut [u32; 2]) -> u32
+pub fn neftolek_decoder_tick(state: &mut decoder::Words, out: &mut [u32; 2]) -> u32
     ensures { record { refusal = result; state = state.new; out = out.new }
         ≡ tick_left state.old }
 {
     decoder::tick(state, out)
 }
 
-#[unsafe(no_mangle)]
-pub extern "C" fn neftolek_encoder_fresh(state: &mut encoder::Words)
+pub fn neftolek_encoder_fresh(state: &mut encoder::Words)
     ensures { state.new ≡ encoder_words fresh_encoder }
 {
     encoder::fresh(state);
 }
 
 // The token with this number and value: `out` gets its bits, the first sent least significant, and their count.
-#[unsafe(no_mangle)]
-pub extern "C" fn neftolek_encode(
-    state: &mut encoder::Words,
-    kind: u32,
-    value: u32,
-    out: &mut [u32; 2],
-) -> u32
+pub fn neftolek_encode(state: &mut encoder::Words, kind: u32, value: u32, out: &mut [u32; 2]) -> u32
     ensures { record { refusal = result; state = state.new; out = out.new }
         ≡ encode_left state.old kind value }
 {

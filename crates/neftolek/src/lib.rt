@@ -1,5 +1,5 @@
 // The C interface: every call of characters, link and router on states that are arrays of words. Any words may be
-// handed in; those that are no state are refused as STATE.
+// handed in; those that are no state are refused as STATE. `neftolek_c` has the exports.
 #![tactic(auto)]
 
 pub mod character_calls;

@@ -1,5 +1,5 @@
-// Link ends and the time record: each export is the call of `link` with its name. A refused call leaves the state's words, the
-// stores and the time record, and answers zeros in `out`.
+// Link ends and the time record: each function is the call of `link` with its name. A refused call leaves the state's words,
+// the stores and the time record, and answers zeros in `out`.
 ghost use Rattle.std.specs.Prelude.{◌≡◌};
 ghost use Rattle.time.specs.Time.{fresh_time};
 ghost use Rattle.link.specs.Ends.{fresh_link};
@@ -11,28 +11,20 @@ use link::calls;
 use link::fields::{TimeWords, Words};
 
 // A link end as it is made: in ErrorReset, controls off, stores empty.
-#[unsafe(no_mangle)]
-pub extern "C" fn neftolek_link_fresh(state: &mut Words)
+pub fn neftolek_link_fresh(state: &mut Words)
     ensures { state.new ≡ link_words fresh_link }
 {
     calls::fresh(state);
 }
 
-#[unsafe(no_mangle)]
-pub extern "C" fn neftolek_time_fresh(time: &mut TimeWords)
+pub fn neftolek_time_fresh(time: &mut TimeWords)
     ensures { time.new ≡ time_words fresh_time }
 {
     calls::fresh_time(time);
 }
 
 // One tick of the clock: `out` gets how many of the host's N-Chars were discarded.
-#[unsafe(no_mangle)]
-pub extern "C" fn neftolek_link_tick(
-    state: &mut Words,
-    rx: &mut [u16],
-    tx: &[u16],
-    out: &mut [u32; 1],
-) -> u32
+pub fn neftolek_link_tick(state: &mut Words, rx: &mut [u16], tx: &[u16], out: &mut [u32; 1]) -> u32
     ensures { record { refusal = result; state = state.new; places = rx.new; out = out.new }
         ≡ tick_left state.old rx.old tx.now }
 {
@@ -40,13 +32,7 @@ pub extern "C" fn neftolek_link_tick(
 }
 
 // To ErrorReset from any state, with both stores emptied.
-#[unsafe(no_mangle)]
-pub extern "C" fn neftolek_link_reset(
-    state: &mut Words,
-    rx: &mut [u16],
-    tx: &[u16],
-    out: &mut [u32; 1],
-) -> u32
+pub fn neftolek_link_reset(state: &mut Words, rx: &mut [u16], tx: &[u16], out: &mut [u32; 1]) -> u32
     ensures { record { refusal = result; state = state.new; places = rx.new; out = out.new }
         ≡ reset_left state.old rx.old tx.now }
 {
@@ -54,8 +40,7 @@ pub extern "C" fn neftolek_link_reset(
 }
 
 // A fault by the number of the decoder's report: `neftolek_link_fault(state, rx, n, tx, m, 5, out)` is a parity error.
-#[unsafe(no_mangle)]
-pub extern "C" fn neftolek_link_fault(
+pub fn neftolek_link_fault(
     state: &mut Words,
     rx: &mut [u16],
     tx: &[u16],
@@ -69,8 +54,7 @@ pub extern "C" fn neftolek_link_fault(
 }
 
 // The three controls, all at once; any number but 0 is on.
-#[unsafe(no_mangle)]
-pub extern "C" fn neftolek_link_control(
+pub fn neftolek_link_control(
     state: &mut Words,
     rx: &mut [u16],
     tx: &[u16],
@@ -86,13 +70,7 @@ pub extern "C" fn neftolek_link_control(
 }
 
 // The token that is due: `out` gets the discarded, the token's number, 0 for none, and its value.
-#[unsafe(no_mangle)]
-pub extern "C" fn neftolek_link_send(
-    state: &mut Words,
-    rx: &mut [u16],
-    tx: &[u16],
-    out: &mut [u32; 3],
-) -> u32
+pub fn neftolek_link_send(state: &mut Words, rx: &mut [u16], tx: &[u16], out: &mut [u32; 3]) -> u32
     ensures { record { refusal = result; state = state.new; places = rx.new; out = out.new }
         ≡ send_left state.old rx.old tx.now }
 {
@@ -100,8 +78,7 @@ pub extern "C" fn neftolek_link_send(
 }
 
 // The token with this number and value came over the wire: `out` gets the discarded, and 1 for a tick out.
-#[unsafe(no_mangle)]
-pub extern "C" fn neftolek_link_receive(
+pub fn neftolek_link_receive(
     state: &mut Words,
     rx: &mut [u16],
     tx: &[u16],
@@ -117,13 +94,7 @@ pub extern "C" fn neftolek_link_receive(
 }
 
 // The host puts an N-Char to be sent: `out` gets how many were discarded.
-#[unsafe(no_mangle)]
-pub extern "C" fn neftolek_link_put(
-    state: &mut Words,
-    tx: &mut [u16],
-    nchar: u32,
-    out: &mut [u32; 1],
-) -> u32
+pub fn neftolek_link_put(state: &mut Words, tx: &mut [u16], nchar: u32, out: &mut [u32; 1]) -> u32
     ensures { record { refusal = result; state = state.new; places = tx.new; out = out.new }
         ≡ put_left state.old tx.old nchar }
 {
@@ -131,8 +102,7 @@ pub extern "C" fn neftolek_link_put(
 }
 
 // The host takes an N-Char that was received: `out` gets the discarded, always 0, and the N-Char.
-#[unsafe(no_mangle)]
-pub extern "C" fn neftolek_link_take(state: &mut Words, rx: &[u16], out: &mut [u32; 2]) -> u32
+pub fn neftolek_link_take(state: &mut Words, rx: &[u16], out: &mut [u32; 2]) -> u32
     ensures { record { refusal = result; state = state.new; out = out.new }
         ≡ take_left state.old rx.now }
 {
@@ -140,8 +110,7 @@ pub extern "C" fn neftolek_link_take(state: &mut Words, rx: &[u16], out: &mut [u
 }
 
 // The host offers a Time-Code, which waits until the next send in Run: `out` gets the discarded, always 0.
-#[unsafe(no_mangle)]
-pub extern "C" fn neftolek_link_offer(state: &mut Words, code: u8, out: &mut [u32; 1]) -> u32
+pub fn neftolek_link_offer(state: &mut Words, code: u8, out: &mut [u32; 1]) -> u32
     ensures { record { refusal = result; state = state.new; out = out.new }
         ≡ offer_left state.old code }
 {

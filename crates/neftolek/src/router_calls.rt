@@ -9,28 +9,20 @@ ghost use Rattle.router.specs.RouterCalls.{put_left, take_left, run_left, row_re
 use router_ports::Words;
 use router_table::Table;
 
-#[unsafe(no_mangle)]
-pub extern "C" fn neftolek_router_fresh(state: &mut Words)
+pub fn neftolek_router_fresh(state: &mut Words)
     ensures { state.new ≡ router_words fresh_router }
 {
     router::fresh(state);
 }
 
-#[unsafe(no_mangle)]
-pub extern "C" fn neftolek_table_fresh(table: &mut Table)
+pub fn neftolek_table_fresh(table: &mut Table)
     ensures { table.new ≡ fresh_table }
 {
     router_table::fresh(table);
 }
 
 // One N-Char to a port's input store.
-#[unsafe(no_mangle)]
-pub extern "C" fn neftolek_router_put(
-    state: &mut Words,
-    area: &mut [u16],
-    port: u32,
-    nchar: u32,
-) -> u32
+pub fn neftolek_router_put(state: &mut Words, area: &mut [u16], port: u32, nchar: u32) -> u32
     ensures { record { refusal = result; state = state.new; area = area.new; out = [] }
         ≡ put_left state.old area.old port nchar }
 {
@@ -38,13 +30,7 @@ pub extern "C" fn neftolek_router_put(
 }
 
 // The front N-Char of a port's output store, in `out`.
-#[unsafe(no_mangle)]
-pub extern "C" fn neftolek_router_take(
-    state: &mut Words,
-    area: &[u16],
-    port: u32,
-    out: &mut [u32; 1],
-) -> u32
+pub fn neftolek_router_take(state: &mut Words, area: &[u16], port: u32, out: &mut [u32; 1]) -> u32
     ensures { record { refusal = result; state = state.new; area = area.now; out = out.new }
         ≡ take_left state.old area.now port }
 {
@@ -52,8 +38,7 @@ pub extern "C" fn neftolek_router_take(
 }
 
 // Rounds, at most `limit`: `out` gets how many were run, the N-Chars moved and the address errors met.
-#[unsafe(no_mangle)]
-pub extern "C" fn neftolek_router_run(
+pub fn neftolek_router_run(
     state: &mut Words,
     area: &mut [u16],
     table: &Table,
@@ -66,13 +51,7 @@ pub extern "C" fn neftolek_router_run(
     router::run(state, area, table, limit, out)
 }
 
-#[unsafe(no_mangle)]
-pub extern "C" fn neftolek_router_write_row(
-    state: &Words,
-    table: &mut Table,
-    row: u32,
-    value: u32,
-) -> u32
+pub fn neftolek_router_write_row(state: &Words, table: &mut Table, row: u32, value: u32) -> u32
     ensures { (result ≡ row_refused state.now row)
         × (table.new ≡ table_left state.now table.old row value) }
 {
@@ -80,13 +59,7 @@ pub extern "C" fn neftolek_router_write_row(
 }
 
 // A row's value, in `out`.
-#[unsafe(no_mangle)]
-pub extern "C" fn neftolek_router_read_row(
-    state: &Words,
-    table: &Table,
-    row: u32,
-    out: &mut [u32; 1],
-) -> u32
+pub fn neftolek_router_read_row(state: &Words, table: &Table, row: u32, out: &mut [u32; 1]) -> u32
     ensures { (result ≡ (row_left state.now table.now row).refusal)
         × (out.new ≡ (row_left state.now table.now row).value ∷ []) }
 {
