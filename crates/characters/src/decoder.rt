@@ -1,7 +1,7 @@
 // Bits to reports (01, Characters on the wire, Decoder), in place on the words of a decoder.
 ghost use Rattle.std.specs.Prelude.{ℕ, ◌≡◌, Bool, true, [], ◌∷◌, eqb};
 ghost use Rattle.vocabulary.specs.Choice.{pick};
-ghost use Rattle.vocabulary.specs.Refusals.{STATE, number as refusalNumber};
+ghost use Rattle.vocabulary.specs.Refusals.{STATE, number as refusal_number};
 ghost use Rattle.words.specs.Words.{truth_word};
 ghost use Rattle.characters.specs.Bits.{odd};
 ghost use Rattle.characters.specs.Wire.{good_parity, n_char_character};
@@ -82,7 +82,7 @@ fn stop(words: &mut Words)
 
 // Nothing is reported. The answer is this number where the words are good, else STATE.
 fn stay(good: bool, number: u8, out: &mut [u32; 2]) -> u32
-    ensures { (result ≡ pick good number (refusalNumber STATE)) × (out.new ≡ 0 ∷ 0 ∷ []) }
+    ensures { (result ≡ pick good number (refusal_number STATE)) × (out.new ≡ 0 ∷ 0 ∷ []) }
 {
     *out = [0, 0];
     if good {

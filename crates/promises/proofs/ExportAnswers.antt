@@ -1,4 +1,5 @@
--- `neftolek`, the exports: each promise is an equation with a definition, so two answers that it allows are one.
+-- `neftolek`, the calls in the shape that C sees: each promise is an equation with a definition, so two answers that it allows
+-- are one.
 -- Assumes nothing.
 use mathlib.Core.Path.{sym, ap, ◌∙◌}
 use Rattle.promises.specs.OneAnswer.{OneResult, OnePlaces}

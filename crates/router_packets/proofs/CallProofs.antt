@@ -116,7 +116,7 @@ module _ (was : Model) (n : ℕ) (l : Ledger) (kept : Kept was n l) where
     more_stage : (m : Mode) → Stage was l.lent (y.held (input_store port)) (s.parts port) (put_to port s.finished) (s.tails port) port m →
         Stage was l.lent (y.held (input_store port) ++ c ∷ []) (s.parts port) (put_to port s.finished) (s.tails port) port m
     more_stage m (since clean p) = since clean (put_progress l.lent (s.parts port) (y.held (input_store port)) c m p)
-    more_stage m (before busy none no_Header no_cargo away) = before busy none no_Header no_cargo away
+    more_stage m (before busy none no_header no_cargo away) = before busy none no_header no_cargo away
 
     put_since : (z : Machine) → Since was (put_books z) longer
     put_since z =
@@ -240,7 +240,7 @@ module _ (was : Model) (n : ℕ) (l : Ledger) (kept : Kept was n l) where
   later_stage : (table held : List ℕ) (p : Part) (past tail : List ℕ) (i : ℕ) (m : Mode) →
       Stage was l.lent held p past tail i m → Stage was (table ∷ l.lent) held p past tail i m
   later_stage table held p past tail i m (since clean q) = since clean (later_progress l.lent table held p m q)
-  later_stage table held p past tail i m (before busy none no_Header no_cargo away) = before busy none no_Header no_cargo away
+  later_stage table held p past tail i m (before busy none no_header no_cargo away) = before busy none no_header no_cargo away
 
   lent_since : (table : List ℕ) → Since was (lent_too table) y
   lent_since table =

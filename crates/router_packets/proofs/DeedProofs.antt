@@ -114,7 +114,7 @@ module _ (was : Model) (l : Ledger) (N : ℕ) (table : List ℕ) (stood : Memᴰ
     empties e reads = go (in_store Idle e)
       where
         go : St (c ∷ rest) Idle → Since was l left
-        go (before busy none no_Header no_cargo away) = absurd away
+        go (before busy none no_header no_cargo away) = absurd away
         go (since clean p) =
             finishes was l y s i h c rest held Idle clean p empty p.mode (end_read table c ∙ ap says_end reads) left
             (left_next Idle e)
@@ -124,14 +124,14 @@ module _ (was : Model) (l : Ledger) (N : ℕ) (table : List ℕ) (stood : Memᴰ
 
     -- what an idle input has begun with
     begins : (p : Part) → p.header ≡ [] → p.cargo ≡ [] → p.header ++ (p.cargo ++ c ∷ rest) ≡ c ∷ rest
-    begins p no_Header no_cargo = rw (no_Header, no_cargo)
+    begins p no_header no_cargo = rw (no_header, no_cargo)
 
     -- "makes the input spilling"
     pub strays : y.modes i ≡ Idle → heading table c ≡ Nowhere → Since was l (turned Spilling)
     strays e reads = go (in_store Idle e)
       where
         go : St (c ∷ rest) Idle → Since was l (turned Spilling)
-        go (before busy none no_Header no_cargo away) = absurd away
+        go (before busy none no_header no_cargo away) = absurd away
         go (since clean p) =
             let spilling : InProgress l.lent (c ∷ rest) here Spilling =
             record {
@@ -158,7 +158,7 @@ module _ (was : Model) (l : Ledger) (N : ℕ) (table : List ℕ) (stood : Memᴰ
       where
         go : St (c ∷ rest) Idle → (b : Bool) → d.delete ≡ b →
             Since was l (pick b ((model N).drop_front (turned (wish d)) (input_store i)) (turned (wish d)))
-        go (before busy none no_Header no_cargo away) b w = absurd away
+        go (before busy none no_header no_cargo away) b w = absurd away
         go (since clean p) true w =
             let waiting : InProgress l.lent rest (record { header = c ∷ []; cargo = [] }) (wish d) =
             record {
@@ -196,8 +196,8 @@ module _ (was : Model) (l : Ledger) (N : ℕ) (table : List ℕ) (stood : Memᴰ
     spills e unended = go (in_store Spilling e)
       where
         go : St (c ∷ rest) Spilling → Since was l left
-        go (before busy none no_Header no_cargo away) =
-            old_goes_on was l y s i h c rest held busy none no_Header no_cargo Spilling away left (left_next Spilling e)
+        go (before busy none no_header no_cargo away) =
+            old_goes_on was l y s i h c rest held busy none no_header no_cargo Spilling away left (left_next Spilling e)
             (spilt_entered s.finished (λ o. refl) e left left_out (λ o. refl) here)
         go (since clean p) =
             goes_on was l y s i h c rest held Spilling clean
@@ -224,8 +224,8 @@ module _ (was : Model) (l : Ledger) (N : ℕ) (table : List ℕ) (stood : Memᴰ
     rests e ended = go (in_store Spilling e)
       where
         go : St (c ∷ rest) Spilling → Since was l rested
-        go (before busy none no_Header no_cargo away) =
-            old_finishes was l y s i h c rest held busy none no_Header no_cargo rested rested_next
+        go (before busy none no_header no_cargo away) =
+            old_finishes was l y s i h c rest held busy none no_header no_cargo rested rested_next
             (spilt_entered s.finished (λ o. refl) e rested left_out (λ o. refl) nothing)
         go (since clean p) =
             let last = ending was l y s i h c rest held spilt in

@@ -79,12 +79,12 @@ module _ (x : Machine) (port : ℕ) (said : (still_held x.router port).nothing �
 
     own_tail : St port → s.tails port ≡ []
     own_tail (since clean p) = clean none.mode
-    own_tail (before busy past no_Header no_cargo away) = absurd (busy none.mode)
+    own_tail (before busy past no_header no_cargo away) = absurd (busy none.mode)
 
     by_owner : (i : ℕ) → i < 11 → y.modes i ≡ Routed port → St i →
         InProgress l.lent (y.held (input_store i)) (s.parts i) (Routed port)
     by_owner i h e (since clean p) = rw e at p
-    by_owner i h e (before busy past no_Header no_cargo away) = absurd (subst (Apart was) e away clear)
+    by_owner i h e (before busy past no_header no_cargo away) = absurd (subst (Apart was) e away clear)
 
     put_since : PutSince port l y
     put_since =

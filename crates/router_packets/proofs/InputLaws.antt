@@ -140,30 +140,30 @@ module _ (was : Model) (l : Ledger) (y : Model) (s : Since was l y) (i : ℕ) (h
 
     -- a packet that the input was in before
 
-    module _ (busy : was.modes i ≡ Idle → ⊥) (none : past ≡ []) (no_Header : part.header ≡ []) (no_cargo : part.cargo ≡ []) where
+    module _ (busy : was.modes i ≡ Idle → ⊥) (none : past ≡ []) (no_header : part.header ≡ []) (no_cargo : part.cargo ≡ []) where
       older : Line (tail ++ c ∷ []) past part rest
       older =
-          rw (none, no_Header, no_cargo)
-          ((rw (none, no_Header, no_cargo) at line) ∙ cut_tail tail c rest)
+          rw (none, no_header, no_cargo)
+          ((rw (none, no_header, no_cargo) at line) ∙ cut_tail tail c rest)
 
       pub old_goes_on : (m : Mode) → Apart was m → (y' : Model) → Next y' rest m → Entered y' s.finished part → Since was l y'
       old_goes_on m apart y' next entered =
           one_input y' rest m next s.finished part (tail ++ c ∷ []) (λ j d. refl) s.journeys older
-          (before busy none no_Header no_cargo apart) entered
+          (before busy none no_header no_cargo apart) entered
 
       pub old_finishes : (y' : Model) → Next y' rest Idle → Entered y' s.finished nothing → Since was l y'
       old_finishes y' next entered =
           one_input y' rest Idle next s.finished nothing (tail ++ c ∷ []) (λ j d. refl) s.journeys
-          (rw (no_Header, no_cargo) at older)
+          (rw (no_header, no_cargo) at older)
           (since (λ e. absurd (busy e)) (nothing_yet l.lent rest)) entered
 
     -- its header is deleted
     pub deletes : (m : Mode) → (was.modes i ≡ Idle → tail ≡ []) → part.header ≡ [] → part.cargo ≡ [] →
         InProgress l.lent rest (record { header = c ∷ []; cargo = [] }) m →
         (y' : Model) → Next y' rest m → Entered y' s.finished (record { header = c ∷ []; cargo = [] }) → Since was l y'
-    deletes m clean no_Header no_cargo progress y' next entered =
+    deletes m clean no_header no_cargo progress y' next entered =
         one_input y' rest m next s.finished (record { header = c ∷ []; cargo = [] }) tail (λ j d. refl) s.journeys
-        (rw (no_Header, no_cargo) at line)
+        (rw (no_header, no_cargo) at line)
         (since clean progress) entered
 
   -- an input does something else

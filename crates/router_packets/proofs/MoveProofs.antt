@@ -48,7 +48,7 @@ module _ (was : Model) (l : Ledger) (N : ℕ) (table : List ℕ) (stood : Memᴰ
   no_cargo_yet : (held : List ℕ) (high : Bool) (m : Mode) → waits_for o high m ≡ true → St held m → here.cargo ≡ []
   no_cargo_yet held high Idle w st = absurd (false≢true w)
   no_cargo_yet held high (Waiting v) w (since clean p) = p.mode.0
-  no_cargo_yet held high (Waiting v) w (before busy none no_Header no_cargo away) = no_cargo
+  no_cargo_yet held high (Waiting v) w (before busy none no_header no_cargo away) = no_cargo
   no_cargo_yet held high (Routed p) w st = absurd (false≢true w)
   no_cargo_yet held high Spilling w st = absurd (false≢true w)
 
@@ -64,8 +64,8 @@ module _ (was : Model) (l : Ledger) (N : ℕ) (table : List ℕ) (stood : Memᴰ
               wanted = ap (λ (ports : ℕ). wants ports o) (sym p.mode.1.ports) ∙ wants_it o high v w;
             };
       })
-  goes_there held high (Waiting v) w (before busy none no_Header no_cargo away) =
-      before busy none no_Header no_cargo (λ clear. false≢true (sym (away o k clear) ∙ wants_it o high v w))
+  goes_there held high (Waiting v) w (before busy none no_header no_cargo away) =
+      before busy none no_header no_cargo (λ clear. false≢true (sym (away o k clear) ∙ wants_it o high v w))
   goes_there held high (Routed p) w st = absurd (false≢true w)
   goes_there held high Spilling w st = absurd (false≢true w)
 
@@ -177,8 +177,8 @@ module _ (was : Model) (l : Ledger) (N : ℕ) (table : List ℕ) (stood : Memᴰ
             at_output (no d) = elsewhere p q d clear (moved was l y s i h c rest held) (sent_to p s.finished) refl
 
         go : St (c ∷ rest) (Routed o) → Since was l carried
-        go (before busy none no_Header no_cargo away) =
-            old_goes_on was l y s i h c rest held busy none no_Header no_cargo (Routed o) away carried carried_next (old away)
+        go (before busy none no_header no_cargo away) =
+            old_goes_on was l y s i h c rest held busy none no_header no_cargo (Routed o) away carried carried_next (old away)
         go (since clean p) =
             goes_on was l y s i h c rest held (Routed o) clean
             (record {
@@ -249,8 +249,8 @@ module _ (was : Model) (l : Ledger) (N : ℕ) (table : List ℕ) (stood : Memᴰ
                 (sent_elsewhere s.finished (ending was l y s i h c rest held (sent o)) p (ne_eqb o p (λ e. d (sym e))))
 
         go : St (c ∷ rest) (Routed o) → Since was l freed
-        go (before busy none no_Header no_cargo away) =
-            old_finishes was l y s i h c rest held busy none no_Header no_cargo freed freed_next (old away)
+        go (before busy none no_header no_cargo away) =
+            old_finishes was l y s i h c rest held busy none no_header no_cargo freed freed_next (old away)
         go (since clean p) =
             finishes was l y s i h c rest held (Routed o) clean p (sent o)
             (k, whole_bound l.lent here.header here.header here.cargo c rest o p.mode) ended freed freed_next new

@@ -130,7 +130,7 @@ module _ (area : List ℕ) (good : bad_area area ≡ false) where
         go : Stage (lists_of x₀) l.lent (y.held (input_store i)) (s.parts i) (put_to i s.finished) (s.tails i) i (y.modes i) →
             FromFresh i
         go (since clean p) = record { no_tail = clean (fresh_mode i h); progress = p }
-        go (before busy none no_Header no_cargo away) = absurd (busy (fresh_mode i h))
+        go (before busy none no_header no_cargo away) = absurd (busy (fresh_mode i h))
 
     all_whole : Whole l y
     all_whole =

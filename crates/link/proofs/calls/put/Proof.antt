@@ -51,8 +51,8 @@ put_spec =
     let own = own_words a.words.now link in
     let record_said = sym (c.bad_record.ensures l own) ∙ c.if-bad_record.false in
     let size_said = sym c.bad_tx_size.ensures ∙ c.if-bad_tx_size.false in
-    let Store_said = sym (c.bad_transmit.ensures l own) ∙ c.if-bad_transmit.true in
-    put_refused_as a.words.now a.tx.now a.nchar 0 (rw (link, record_said, size_said, Store_said)))
+    let store_said = sym (c.bad_transmit.ensures l own) ∙ c.if-bad_transmit.true in
+    put_refused_as a.words.now a.tx.now a.nchar 0 (rw (link, record_said, size_said, store_said)))
     (λ c κs. search rules)
     (λ c. search rules)
     (λ c.
@@ -62,9 +62,9 @@ put_spec =
     let own = own_words a.words.now link in
     let record_said = sym (c.bad_record.ensures l own) ∙ c.if-bad_record.false in
     let size_said = sym c.bad_tx_size.ensures ∙ c.if-bad_tx_size.false in
-    let Store_said = sym (c.bad_transmit.ensures l own) ∙ c.if-bad_transmit.false in
+    let store_said = sym (c.bad_transmit.ensures l own) ∙ c.if-bad_transmit.false in
     let char_said = ap above_eep (sym c.fitted-n.ensures) ∙ sym c.above_eep.ensures ∙ c.if-above_eep.true in
-    put_refused_as a.words.now a.tx.now a.nchar 4 (rw (link, record_said, size_said, Store_said, char_said)))
+    put_refused_as a.words.now a.tx.now a.nchar 4 (rw (link, record_said, size_said, store_said, char_said)))
     (λ c κs. search rules)
     (λ c. search rules)
     (λ c.
@@ -74,10 +74,10 @@ put_spec =
     let own = own_words a.words.now link in
     let record_said = sym (c.bad_record.ensures l own) ∙ c.if-bad_record.false in
     let size_said = sym c.bad_tx_size.ensures ∙ c.if-bad_tx_size.false in
-    let Store_said = sym (c.bad_transmit.ensures l own) ∙ c.if-bad_transmit.false in
+    let store_said = sym (c.bad_transmit.ensures l own) ∙ c.if-bad_transmit.false in
     let char_said = ap above_eep (sym c.fitted-n.ensures) ∙ sym c.above_eep.ensures ∙ c.if-above_eep.false in
     let place_said = sym (c.no_place.ensures l own) ∙ c.if-no_place.true in
-    put_refused_as a.words.now a.tx.now a.nchar 9 (rw (link, record_said, size_said, Store_said, char_said, place_said)))
+    put_refused_as a.words.now a.tx.now a.nchar 9 (rw (link, record_said, size_said, store_said, char_said, place_said)))
     (λ c κs. search rules)
     (λ c. search rules)
     (λ c.
@@ -87,11 +87,11 @@ put_spec =
     let own = own_words a.words.now link in
     let record_said = sym (c.bad_record.ensures l own) ∙ c.if-bad_record.false in
     let size_said = sym c.bad_tx_size.ensures ∙ c.if-bad_tx_size.false in
-    let Store_said = sym (c.bad_transmit.ensures l own) ∙ c.if-bad_transmit.false in
+    let store_said = sym (c.bad_transmit.ensures l own) ∙ c.if-bad_transmit.false in
     let char_said = ap above_eep (sym c.fitted-n.ensures) ∙ sym c.above_eep.ensures ∙ c.if-above_eep.false in
     let place_said = sym (c.no_place.ensures l own) ∙ c.if-no_place.false in
     let passed = refused.put a.words.now (length a.tx.now) (fitted a.nchar)
-    (rw (link, record_said, size_said, Store_said, char_said, place_said)) in
+    (rw (link, record_said, size_said, store_said, char_said, place_said)) in
     let left = rw c.fitted-n.ensures at c.put_one-discarded.ensures in
     rw (left.0 passed.1 l own, left.1 l own, left.2 l own)
     (sym (put_accepted a.words.now a.tx.now a.nchar link passed.0.passes))))

@@ -48,8 +48,8 @@ take_spec =
     let own = own_words a.words.now link in
     let record_said = sym (c.bad_record.ensures l own) ∙ c.if-bad_record.false in
     let size_said = sym c.bad_rx_size.ensures ∙ c.if-bad_rx_size.false in
-    let Store_said = sym (c.bad_receive.ensures l own) ∙ c.if-bad_receive.true in
-    take_refused_as a.words.now a.rx.now 0 (rw (link, record_said, size_said, Store_said)))
+    let store_said = sym (c.bad_receive.ensures l own) ∙ c.if-bad_receive.true in
+    take_refused_as a.words.now a.rx.now 0 (rw (link, record_said, size_said, store_said)))
     (λ c κs. search rules)
     (λ c. search rules)
     (λ c.
@@ -59,9 +59,9 @@ take_spec =
     let own = own_words a.words.now link in
     let record_said = sym (c.bad_record.ensures l own) ∙ c.if-bad_record.false in
     let size_said = sym c.bad_rx_size.ensures ∙ c.if-bad_rx_size.false in
-    let Store_said = sym (c.bad_receive.ensures l own) ∙ c.if-bad_receive.false in
+    let store_said = sym (c.bad_receive.ensures l own) ∙ c.if-bad_receive.false in
     let empty_said = sym (c.is_empty.ensures l own) ∙ c.if-is_empty.true in
-    take_refused_as a.words.now a.rx.now 8 (rw (link, record_said, size_said, Store_said, empty_said)))
+    take_refused_as a.words.now a.rx.now 8 (rw (link, record_said, size_said, store_said, empty_said)))
     (λ c κs. search rules)
     (λ c. search rules)
     (λ c.
@@ -71,8 +71,8 @@ take_spec =
     let own = own_words a.words.now link in
     let record_said = sym (c.bad_record.ensures l own) ∙ c.if-bad_record.false in
     let size_said = sym c.bad_rx_size.ensures ∙ c.if-bad_rx_size.false in
-    let Store_said = sym (c.bad_receive.ensures l own) ∙ c.if-bad_receive.false in
+    let store_said = sym (c.bad_receive.ensures l own) ∙ c.if-bad_receive.false in
     let empty_said = sym (c.is_empty.ensures l own) ∙ c.if-is_empty.false in
-    let passed = refused.take a.words.now (length a.rx.now) (rw (link, record_said, size_said, Store_said, empty_said)) in
+    let passed = refused.take a.words.now (length a.rx.now) (rw (link, record_said, size_said, store_said, empty_said)) in
     let left = c.take_one-nchar.ensures in
     rw (left.0 passed.1 l own, left.1 l own) (sym (take_accepted_lem a.words.now a.rx.now link passed.0.passes))))
