@@ -19,8 +19,8 @@ DECLARED = re.compile(
 )
 USE = re.compile(r"^\s*(?:pub )?(?:ghost )?use ([^\s{]+?)(?:\.\{([^}]*)\})?(?: as (\S+?))?;?$", re.M)
 MADE = re.compile(r"(invariant|decreases)-")
-# Names that would fall together with another, mostly lemmas with the definition that they speak of, and what they are called. The promises crate has its
-# one-answer lines under the functions' names, and no such lemma but one.
+# Names that would fall together with another, mostly lemmas with the definition that they speak of, and what they are called.
+# The promises crate has its one-answer lines under the functions' names, and two such names alone.
 APART = {
     n: n.replace("-", "_") + "_lem"
     for n in (
@@ -29,14 +29,15 @@ APART = {
         "put-stored null-for nothing-held row-refused held-refused fresh-store state-first mode-at output-at output-in store_in "
         "mode-words left-at"
     ).split()
-} | {"wentOn": "WentOn", "thrownAway": "ThrownAway", "routerPut": "puts_router"}
+} | {"wentOn": "WentOn", "thrownAway": "ThrownAway", "routerPut": "puts_router", "Store-said": "store_said"}
 # what is declared in a list of names (constructors, variables) and what a file calls what it brings in
 LISTED = set(
     "isEnabled nullsExchanged linkDisabled timerAtLimit atNear atFar handedIn sentNull isOne asRefused "
     "routerTakes routerTakeLeft routerPuts routerPutLeft routerTold routerTakeTests routerRunTests routerRowTests "
-    "routerPutTests routerHeldTests decoderTickLeft fctCharacter escCharacter behindEsc gotNull sentNull' gotNull' handedIn'".split()
+    "routerPutTests routerHeldTests decoderTickLeft fctCharacter escCharacter behindEsc gotNull sentNull' gotNull' handedIn' "
+    "refusalNumber no_Header".split()
 )
-# of these, the ones that are fields of a record of laws; behind a dot any other is what Rattle makes of a function's name
+# of the names apart, the ones that are fields of a record of laws; behind a dot any other is what Rattle makes of a function's name
 FIELDS = set("is-decoder is-encoder is-link is-time is-router fresh-time nothing-held".split())
 
 
