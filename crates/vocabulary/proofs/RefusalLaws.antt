@@ -1,23 +1,58 @@
 -- A call that is not refused passed each of its tests.
 -- Assumes nothing.
-use mathlib.Core.Path.{◌≡◌, refl}
-use mathlib.Core.Bool.{Bool, true, false}
-use mathlib.Core.List.{List, ◌∷◌}
+use Rattle.std.specs.Prelude.{ℕ, ◌≡◌, refl, Bool, true, false, List, ◌∷◌, eqb, Result, Ok, Err}
+use mathlib.Core.Path.{sym, ap, ◌∙◌}
 use native.Mathlib.Omega.{arith}
-use Rattle.vocabulary.specs.Refusals.{Refusal, STATE, STORE, PORT, ROW, CHAR, ROUNDS, STOPPED, NOTRUN, EMPTY, FULL, number, Test, test, first_of}
+use Rattle.vocabulary.specs.Choice.{pick}
+use Rattle.vocabulary.specs.declared.Refusal.{Refusal}
+use Rattle.vocabulary.specs.Refusals.{number, refusal_in, answer_in, Test, test, first_of}
 
 -- no refusal has the number of none
-not_none : (r : Refusal) → number r ≡ 0 → ⊥
-not_none STATE e = omega arith
-not_none STORE e = omega arith
-not_none PORT e = omega arith
-not_none ROW e = omega arith
-not_none CHAR e = omega arith
-not_none ROUNDS e = omega arith
-not_none STOPPED e = omega arith
-not_none NOTRUN e = omega arith
-not_none EMPTY e = omega arith
-not_none FULL e = omega arith
+pub not_none : (r : Refusal) → number r ≡ 0 → ⊥
+not_none Refusal.State e = omega arith
+not_none Refusal.Store e = omega arith
+not_none Refusal.Port e = omega arith
+not_none Refusal.Row e = omega arith
+not_none Refusal.Char e = omega arith
+not_none Refusal.Rounds e = omega arith
+not_none Refusal.Stopped e = omega arith
+not_none Refusal.NotRun e = omega arith
+not_none Refusal.Empty e = omega arith
+not_none Refusal.Full e = omega arith
+
+-- the refusal that has a number
+abbrev with_number : ℕ → Refusal
+with_number n =
+    pick (eqb n 1) Refusal.State
+    (pick (eqb n 2) Refusal.Store
+    (pick (eqb n 3) Refusal.Port
+    (pick (eqb n 4) Refusal.Row
+    (pick (eqb n 5) Refusal.Char
+    (pick (eqb n 6) Refusal.Rounds
+    (pick (eqb n 7) Refusal.Stopped
+    (pick (eqb n 8) Refusal.NotRun
+    (pick (eqb n 9) Refusal.Empty
+    Refusal.Full))))))))
+
+with_its_number : (r : Refusal) → with_number (number r) ≡ r
+with_its_number Refusal.State = refl
+with_its_number Refusal.Store = refl
+with_its_number Refusal.Port = refl
+with_its_number Refusal.Row = refl
+with_its_number Refusal.Char = refl
+with_its_number Refusal.Rounds = refl
+with_its_number Refusal.Stopped = refl
+with_its_number Refusal.NotRun = refl
+with_its_number Refusal.Empty = refl
+with_its_number Refusal.Full = refl
+
+-- a number and an answer leave one result: which refusal it is, or what was answered
+pub one_result : {A : Type 0} (zero : A) (x y : Result A Refusal) →
+    refusal_in x ≡ refusal_in y → answer_in zero x ≡ answer_in zero y → x ≡ y
+one_result zero (Ok a) (Ok b) r e = ap Ok e
+one_result zero (Ok a) (Err s) r e = absurd (not_none s (sym r))
+one_result zero (Err s) (Ok b) r e = absurd (not_none s r)
+one_result zero (Err s) (Err t) r e = ap Err (sym (with_its_number s) ∙ ap with_number r ∙ with_its_number t)
 
 -- the first test of a call that is not refused does not apply
 pub passed : (r : Refusal) (applies : Bool) (ts : List Test) → first_of (test r applies ∷ ts) ≡ 0 → applies ≡ false

@@ -1,23 +1,63 @@
 -- 01, The ten refusals: their names, their numbers and the order in which they are tested. They stand here alone.
 -- Assumes nothing.
-use Rattle.std.specs.Prelude.{ℕ, ◌≡◌, Bool, true, false, List, [], ◌∷◌, eqb}
+use Rattle.std.specs.Prelude.{ℕ, ◌≡◌, Bool, true, false, List, [], ◌∷◌, eqb, Result, Ok, Err}
 use Rattle.vocabulary.specs.Choice.{pick}
+use Rattle.vocabulary.specs.declared.Refusal.{Refusal}
+use Rattle.vocabulary.specs.declared.Refusal.TheVariants as the
 
-pub data Refusal : Type 0 where
-  STATE STORE PORT ROW CHAR ROUNDS STOPPED NOTRUN EMPTY FULL : Refusal
+-- the refusals by the names that the paper gives them
+abbrev pub STATE : Refusal
+STATE = the.State
+
+abbrev pub STORE : Refusal
+STORE = the.Store
+
+abbrev pub PORT : Refusal
+PORT = the.Port
+
+abbrev pub ROW : Refusal
+ROW = the.Row
+
+abbrev pub CHAR : Refusal
+CHAR = the.Char
+
+abbrev pub ROUNDS : Refusal
+ROUNDS = the.Rounds
+
+abbrev pub STOPPED : Refusal
+STOPPED = the.Stopped
+
+abbrev pub NOTRUN : Refusal
+NOTRUN = the.NotRun
+
+abbrev pub EMPTY : Refusal
+EMPTY = the.Empty
+
+abbrev pub FULL : Refusal
+FULL = the.Full
 
 -- 01, The ten refusals: the column "No."
 abbrev pub number : Refusal → ℕ
-number STATE = 1
-number STORE = 2
-number PORT = 3
-number ROW = 4
-number CHAR = 5
-number ROUNDS = 6
-number STOPPED = 7
-number NOTRUN = 8
-number EMPTY = 9
-number FULL = 10
+number Refusal.State = 1
+number Refusal.Store = 2
+number Refusal.Port = 3
+number Refusal.Row = 4
+number Refusal.Char = 5
+number Refusal.Rounds = 6
+number Refusal.Stopped = 7
+number Refusal.NotRun = 8
+number Refusal.Empty = 9
+number Refusal.Full = 10
+
+-- What a call answers: the number of its refusal, 0 where it is accepted.
+abbrev pub refusal_in : {A : Type 0} → Result A Refusal → ℕ
+refusal_in (Ok answer) = 0
+refusal_in (Err r) = number r
+
+-- "other answers are zero": the answer beside the refusal, `zero` where the call is refused
+abbrev pub answer_in : {A : Type 0} → A → Result A Refusal → A
+answer_in zero (Ok answer) = answer
+answer_in zero (Err r) = zero
 
 -- A test that a call makes: whether it applies, and the refusal that follows.
 pub record Test : Type 0 where

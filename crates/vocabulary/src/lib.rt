@@ -1,31 +1,34 @@
 // The words that every layer shares: refusals, N-Chars, tokens. Each stands here once.
 #![tactic(auto)]
 
-ghost use Rattle.std.specs.Prelude.{◌≡◌};
+ghost use Rattle.std.specs.Prelude.{◌≡◌, Ok, Err};
 ghost use Rattle.vocabulary.specs.Choice.{pick};
+ghost use Rattle.vocabulary.specs.Refusals.{number};
 ghost use Rattle.vocabulary.specs.NChars.{read_as, is_end, above_eep};
 ghost use Rattle.vocabulary.specs.Tokens.{kind_of, value_of, bad_char};
 
-// 01, The ten refusals. 0 is no refusal.
-pub const STATE: u8 = 1;
+// 01, The ten refusals, each under its number.
+#[derive(Clone, Copy, Debug, PartialEq, Eq)]
+pub enum Refusal {
+    State = 1,
+    Store,
+    Port,
+    Row,
+    Char,
+    Rounds,
+    Stopped,
+    NotRun,
+    Empty,
+    Full,
+}
 
-pub const STORE: u8 = 2;
+impl From<Refusal> for u32 {
+    ghost from_gives = { λ refusal n. n ≡ number refusal };
 
-pub const PORT: u8 = 3;
-
-pub const ROW: u8 = 4;
-
-pub const CHAR: u8 = 5;
-
-pub const ROUNDS: u8 = 6;
-
-pub const STOPPED: u8 = 7;
-
-pub const NOTRUN: u8 = 8;
-
-pub const EMPTY: u8 = 9;
-
-pub const FULL: u8 = 10;
+    fn from(refusal: Refusal) -> u32 {
+        refusal as u32
+    }
+}
 
 // 01, Characters on the wire: what stores hold for the two ends of a packet.
 pub const EOP: u16 = 256;
@@ -33,7 +36,7 @@ pub const EOP: u16 = 256;
 pub const EEP: u16 = 257;
 
 // One of the four things that go over a link.
-#[derive(Clone, Copy, Drop)]
+#[derive(Clone, Copy, Debug, PartialEq, Eq)]
 pub enum Token {
     Null,
     Fct,
@@ -41,11 +44,11 @@ pub enum Token {
     TimeCode(u8),
 }
 
-// A refusal where its test applies, else what the later tests say. Nested, the outermost is tested first.
-pub fn refuse(applies: bool, number: u8, later: u8) -> u8
-    ensures { result ≡ pick applies number later }
+// A test that a call makes: `refuse(applies, Refusal::Port)?` goes on where it does not apply.
+pub fn refuse(applies: bool, refusal: Refusal) -> Result<(), Refusal>
+    ensures { result ≡ pick applies (Err refusal) (Ok tt) }
 {
-    if applies { number } else { later }
+    if applies { Err(refusal) } else { Ok(()) }
 }
 
 // A stored number as it is read: 258 and above are an EEP.
@@ -74,10 +77,8 @@ pub fn bad_char(t: Token) -> bool
     ensures { result ≡ bad_char t }
 {
     match t {
-        Token::Null => false,
-        Token::Fct => false,
         Token::NChar(n) => above_eep(n),
-        Token::TimeCode(_) => false,
+        Token::Null | Token::Fct | Token::TimeCode(_) => false,
     }
 }
 
@@ -98,9 +99,8 @@ pub fn value(t: Token) -> u16
     ensures { result ≡ value_of t }
 {
     match t {
-        Token::Null => 0,
-        Token::Fct => 0,
+        Token::Null | Token::Fct => 0,
         Token::NChar(n) => n,
-        Token::TimeCode(v) => v as u16,
+        Token::TimeCode(v) => u16::from(v),
     }
 }

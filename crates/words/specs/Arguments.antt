@@ -1,8 +1,10 @@
 -- Numbers that are handed to a call as words. One that does not fit what the call takes is read as the largest that does, or
 -- as an N-Char that is none, which the call then refuses in its own order.
 -- Assumes nothing.
-use Rattle.std.specs.Prelude.{ℕ, ◌<◌, ◌≡◌, false, eqb, ltb}
+use Rattle.std.specs.Prelude.{ℕ, ◌<◌, ◌≡◌, false, eqb, ltb, Result, Ok, Err}
 use Rattle.vocabulary.specs.Choice.{pick}
+use Rattle.vocabulary.specs.declared.Refusal.{Refusal}
+use Rattle.vocabulary.specs.Refusals.{CHAR}
 use Rattle.vocabulary.specs.Tokens.{kind_of, value_of, bad_char}
 use Rattle.vocabulary.specs.declared.Token.{Token}
 use Rattle.vocabulary.specs.declared.Token.TheVariants.{Null, Fct, NChar, TimeCode}
@@ -28,6 +30,10 @@ token_of kind value =
     (pick (eqb kind 2) (bare Fct value)
     (pick (eqb kind 3) (NChar (fitted value))
     (pick (eqb kind 4) (time_code value) no_token)))
+
+-- the token, or CHAR where a number and a value name none
+abbrev pub named : Token → Result Token Refusal
+named t = pick (bad_char t) (Err CHAR) (Ok t)
 
 -- numbers that fit their places: an N-Char's 16 bits, a Time-Code's eight
 abbrev pub FitsToken : Token → Type 0

@@ -1,11 +1,13 @@
 // Truths, numbers and tokens as words of 32 bits.
 #![tactic(auto)]
 
-ghost use Rattle.std.specs.Prelude.{◌≡◌};
+ghost use Rattle.std.specs.Prelude.{◌≡◌, false};
+ghost use Rattle.vocabulary.specs.Tokens.{bad_char};
+ghost use Rattle.vocabulary.specs.declared.Token.TheVariants.{NChar};
 ghost use Rattle.words.specs.Words.{truth, truth_word, byte, narrow};
-ghost use Rattle.words.specs.Arguments.{fitted, no_token, bare, time_code, token_of};
+ghost use Rattle.words.specs.Arguments.{fitted, bare, time_code, token_of, named};
 
-use vocabulary::Token;
+use vocabulary::{Refusal, Token};
 
 pub fn truth(word: u32) -> bool
     ensures { result ≡ truth word }
@@ -16,7 +18,7 @@ pub fn truth(word: u32) -> bool
 pub fn truth_word(b: bool) -> u32
     ensures { result ≡ truth_word b }
 {
-    if b { 1 } else { 0 }
+    u32::from(b)
 }
 
 pub fn byte(word: u32) -> u8
@@ -31,51 +33,48 @@ pub fn narrow(n: usize) -> u32
     (n % 4294967296) as u32
 }
 
-pub fn wide(word: u32) -> usize
-    ensures { result ≡ word }
-{
-    word as usize
-}
-
 // A number in 16 bits, the largest where it does not fit.
 pub fn fitted(n: u32) -> u16
     ensures { result ≡ fitted n }
 {
-    if n < 65536 { n as u16 } else { 65535 }
+    u16::try_from(n).unwrap_or(u16::MAX)
 }
 
-fn no_token() -> Token
-    ensures { result ≡ no_token }
+// NULL or FCT, which come without a value.
+fn bare(t: Token, value: u32) -> Result<Token, Refusal>
+    ensures { bad_char t ≡ false → result ≡ named (bare t value) }
 {
-    Token::NChar(65535)
+    vocabulary::refuse(value != 0, Refusal::Char)?;
+    Ok(t)
 }
 
-fn bare(t: Token, value: u32) -> Token
-    ensures { result ≡ bare t value }
+fn n_char(value: u32) -> Result<Token, Refusal>
+    ensures { result ≡ named (NChar (fitted value)) }
 {
-    if value == 0 { t } else { no_token() }
+    let n = fitted(value);
+    vocabulary::refuse(vocabulary::above_eep(n), Refusal::Char)?;
+    Ok(Token::NChar(n))
 }
 
-fn time_code(value: u32) -> Token
-    ensures { result ≡ time_code value }
+fn time_code(value: u32) -> Result<Token, Refusal>
+    ensures { result ≡ named (time_code value) }
 {
-    if value < 256 {
-        Token::TimeCode(value as u8)
-    } else {
-        no_token()
+    match u8::try_from(value) {
+        Ok(code) => Ok(Token::TimeCode(code)),
+        Err(_) => Err(Refusal::Char),
     }
 }
 
-// The token with this number and value: `token_of(3, 65)` is the data character 65.
+// The token with this number and value: `token_of(3, 65)` is the data character 65. No other pair names one: CHAR.
 #[tactic(auto, unfolding(crate::specs::Arguments::token_of))]
-pub fn token_of(kind: u32, value: u32) -> Token
-    ensures { result ≡ token_of kind value }
+pub fn token_of(kind: u32, value: u32) -> Result<Token, Refusal>
+    ensures { result ≡ named (token_of kind value) }
 {
     match kind {
         1 => bare(Token::Null, value),
         2 => bare(Token::Fct, value),
-        3 => Token::NChar(fitted(value)),
+        3 => n_char(value),
         4 => time_code(value),
-        _ => no_token(),
+        _ => Err(Refusal::Char),
     }
 }
