@@ -10,8 +10,8 @@ use Rattle.words.proofs.byte.Kinds as byte_kinds
 use Rattle.words.proofs.byte.Reads as byte_reads
 use Rattle.words.proofs.narrow.Kinds as narrow_kinds
 use Rattle.words.proofs.narrow.Reads as narrow_reads
-use Rattle.words.proofs.wide.Kinds as wide_kinds
-use Rattle.words.proofs.wide.Reads as wide_reads
+use Rattle.words.proofs.answer.Kinds as answer_kinds
+use Rattle.words.proofs.answer.Reads as answer_reads
 use Rattle.words.proofs.fitted.Kinds as fitted_kinds
 use Rattle.words.proofs.fitted.Reads as fitted_reads
 use Rattle.words.proofs.token_of.Kinds as token_of_kinds
@@ -29,8 +29,8 @@ byte κs a x y s t p q = p ∙ sym q
 pub narrow : OneResult 0 narrow_kinds.ps narrow_kinds.r narrow_reads.Post
 narrow κs a x y s t p q = p ∙ sym q
 
-pub wide : OneResult 0 wide_kinds.ps wide_kinds.r wide_reads.Post
-wide κs a x y s t p q = p ∙ sym q
+pub answer : OneResult 1 answer_kinds.ps answer_kinds.r answer_reads.Post
+answer κs a x y s t p q = p.0 ∙ sym q.0
 
 pub fitted : OneResult 0 fitted_kinds.ps fitted_kinds.r fitted_reads.Post
 fitted κs a x y s t p q = p ∙ sym q

@@ -1,7 +1,8 @@
 // Truths, numbers and tokens as words of 32 bits.
 #![tactic(auto)]
 
-ghost use Rattle.std.specs.Prelude.{◌≡◌, false};
+ghost use Rattle.std.specs.Prelude.{◌≡◌, false, replicate};
+ghost use Rattle.vocabulary.specs.Refusals.{refusal_in, answer_in};
 ghost use Rattle.vocabulary.specs.Tokens.{bad_char};
 ghost use Rattle.vocabulary.specs.declared.Token.TheVariants.{NChar};
 ghost use Rattle.words.specs.Words.{truth, truth_word, byte, narrow};
@@ -76,5 +77,21 @@ pub fn token_of(kind: u32, value: u32) -> Result<Token, Refusal>
         3 => n_char(value),
         4 => time_code(value),
         _ => Err(Refusal::Char),
+    }
+}
+
+// What a call answers, as C takes it: the refusal's number, and in `out` the other answers, zeros where it is refused.
+pub fn answer<const N: usize>(answered: Result<[u32; N], Refusal>, out: &mut [u32; N]) -> u32
+    ensures { (result ≡ refusal_in answered.entry) × (out.new ≡ answer_in (replicate N 0) answered.entry) }
+{
+    match answered {
+        Ok(words) => {
+            *out = words;
+            0
+        }
+        Err(refusal) => {
+            out.fill(0);
+            u32::from(refusal)
+        }
     }
 }
