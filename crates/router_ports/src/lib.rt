@@ -64,16 +64,10 @@ pub enum Mode {
     Spilling,
 }
 
-// The input that an output is held by.
-#[derive(Clone, Copy, Drop)]
-pub enum Owner {
-    Free,
-    By(usize),
-}
-
+// The input that an output is held by, and the one that it took last.
 #[derive(Clone, Copy, Drop)]
 pub struct Output {
-    pub owner: Owner,
+    pub owner: Option<usize>,
     pub last: usize,
 }
 
@@ -135,22 +129,22 @@ pub fn mode_output(m: Mode) -> usize
 }
 
 // 0 where the output is free, 1 where an input holds it.
-pub fn owner_number(w: Owner) -> u8
+pub fn owner_number(w: Option<usize>) -> u8
     ensures { result ≡ owner_number w }
 {
     match w {
-        Owner::Free => 0,
-        Owner::By(_) => 1,
+        None => 0,
+        Some(_) => 1,
     }
 }
 
 // The input that holds the output; 0 where it is free.
-pub fn owner_input(w: Owner) -> usize
+pub fn owner_input(w: Option<usize>) -> usize
     ensures { result ≡ owner_input w }
 {
     match w {
-        Owner::Free => 0,
-        Owner::By(i) => i,
+        None => 0,
+        Some(i) => i,
     }
 }
 
@@ -172,13 +166,13 @@ fn mode_words(m: Mode) -> [u32; 3]
     }
 }
 
-fn output_words(owner: Owner, last: usize) -> [u32; 3]
+fn output_words(owner: Option<usize>, last: usize) -> [u32; 3]
     ensures { result ≡ output_words owner last }
 {
     let granted = words::narrow(last);
     match owner {
-        Owner::Free => [0, 0, granted],
-        Owner::By(i) => {
+        None => [0, 0, granted],
+        Some(i) => {
             let input = words::narrow(i);
             [1, input, granted]
         }
@@ -204,13 +198,13 @@ fn mode_of(number: u32, value: u32, high: u32) -> Mode
     }
 }
 
-fn owner_of(number: u32, input: u32) -> Owner
+fn owner_of(number: u32, input: u32) -> Option<usize>
     ensures { result ≡ owner_of number input }
 {
     if number == 1 {
-        Owner::By(input as usize)
+        Some(input as usize)
     } else {
-        Owner::Free
+        None
     }
 }
 
@@ -228,7 +222,7 @@ fn output_in(words: &Words, p: usize) -> Output
 {
     let at = OUTPUT_WORDS * p + OUTPUTS_AT;
     let owner = owner_of(words[at], words[at + 1]);
-    let last = words::wide(words[at + 2]);
+    let last = words[at + 2] as usize;
     Output { owner, last }
 }
 
@@ -281,7 +275,7 @@ pub fn output_at(words: &Words, o: usize) -> Output
         output_in(words, o)
     } else {
         Output {
-            owner: Owner::Free,
+            owner: None,
             last: 0,
         }
     }
@@ -429,7 +423,7 @@ fn held_by(words: &Words, o: usize, i: usize) -> bool
     if o < PORTS {
         let at = OUTPUT_WORDS * o + OUTPUTS_AT;
         if words[at] == 1 {
-            words::wide(words[at + 1]) == i
+            words[at + 1] as usize == i
         } else {
             false
         }
@@ -454,7 +448,7 @@ fn bad_input(words: &Words, i: usize) -> bool
             if ALL_PORTS < value { true } else { 1 < high }
         },
         2 => if high == 0 {
-            !held_by(words, words::wide(value), i)
+            !held_by(words, value as usize, i)
         } else {
             true
         },
@@ -470,7 +464,7 @@ fn routed_to(words: &Words, i: usize, o: usize) -> bool
     if i < PORTS {
         let at = INPUT_WORDS * i;
         if words[at] == 2 {
-            words::wide(words[at + 1]) == o
+            words[at + 1] as usize == o
         } else {
             false
         }
@@ -486,12 +480,12 @@ fn bad_output(words: &Words, o: usize) -> bool
 {
     let at = OUTPUT_WORDS * o + OUTPUTS_AT;
     let input = words[at + 1];
-    if LAST_PORT < words::wide(words[at + 2]) {
+    if LAST_PORT < words[at + 2] as usize {
         return true;
     }
     match words[at] {
         0 => input != 0,
-        1 => !routed_to(words, words::wide(input), o),
+        1 => !routed_to(words, input as usize, o),
         _ => true,
     }
 }
@@ -505,7 +499,7 @@ fn bad_port(words: &Words, p: usize) -> bool
     let o = OUTPUT_WORDS * p + OUTPUTS_AT;
     let idle = (words[i] == 0) & (words[i + 1] == 0) & (words[i + 2] == 0);
     if idle & (words[o] == 0) & (words[o + 1] == 0) {
-        LAST_PORT < words::wide(words[o + 2])
+        LAST_PORT < words[o + 2] as usize
     } else {
         if bad_input(words, p) {
             true
