@@ -433,6 +433,7 @@ fn held_by(words: &Words, o: usize, i: usize) -> bool
 }
 
 // Whether the words of an input are those of no mode, or of one that is refused as STATE.
+#[tactic(auto, unfolding(crate::specs::StateWords::bad_input_in))]
 fn bad_input(words: &Words, i: usize) -> bool
     requires { i < 11 }
     ensures { result ≡ bad_input_in words.now i }
@@ -474,6 +475,7 @@ fn routed_to(words: &Words, i: usize, o: usize) -> bool
 }
 
 // Whether the words of an output are those of no owner, or are refused as STATE.
+#[tactic(auto, unfolding(crate::specs::StateWords::bad_output_in))]
 fn bad_output(words: &Words, o: usize) -> bool
     requires { o < 11 }
     ensures { result ≡ bad_output_in words.now o }
@@ -491,6 +493,7 @@ fn bad_output(words: &Words, o: usize) -> bool
 }
 
 // An idle input and a free output, which most are, are all zeros.
+#[tactic(auto, using(crate::proofs::StateWordsLaws::zeros_in))]
 fn bad_port(words: &Words, p: usize) -> bool
     requires { p < 11 }
     ensures { result ≡ bad_port_in words.now p }
