@@ -7,7 +7,7 @@ ghost use Rattle.vocabulary.specs.Choice.{pick};
 ghost use Rattle.words.specs.Words.{word_at};
 ghost use Rattle.store.specs.Ring.{empty, bad_store};
 ghost use Rattle.store.specs.Changes.{front_of, without_first, put_store};
-ghost use Rattle.router_ports.specs.Ports.{fresh_router, mode_at, output_at, store_at};
+ghost use Rattle.router_ports.specs.Ports.{wants, fresh_router, mode_at, output_at, store_at};
 ghost use Rattle.router_ports.specs.Numbers.{mode_number, wants_nothing, mode_wanted, mode_output, owner_number, owner_input};
 ghost use Rattle.router_ports.specs.Numbers.{is_idle, is_waiting};
 ghost use Rattle.router_ports.specs.Places.{machine, size_in, bad_area, places_at, put_at, full_at, front_at};
@@ -53,6 +53,17 @@ pub type Words = [u32; WORDS];
 pub struct Wanted {
     pub ports: u16,
     pub high: bool,
+}
+
+impl Wanted {
+    // Whether the port is in the set: those past the set's bits are not.
+    #[tactic(auto, using(crate::proofs::WantedLaws::none_past))]
+    #[inline(always)]
+    pub fn wants(self, port: usize) -> bool
+        ensures { result ≡ wants self.ports port }
+    {
+        port < 16 && (self.ports >> port) % 2 == 1
+    }
 }
 
 // What an input does: nothing, wait, send to an output, or discard a packet through its end.
