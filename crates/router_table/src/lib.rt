@@ -101,6 +101,7 @@ pub fn outside_rows(row: usize) -> bool
 pub fn write(table: &mut Table, row: usize, value: u32)
     ensures { table.new ≡ with_row table.old row value }
 {
+    // Not by `get_mut`: it says nothing of the rows behind the borrow.
     if row < ROWS {
         table[row] = written(value);
     }
@@ -112,7 +113,7 @@ pub fn read(table: &Table, row: usize) -> u32
     table.get(row).copied().unwrap_or(0)
 }
 
-#[tactic(auto, using(crate::proofs::MaskLaws::shifted), unfolding(crate::specs::Headings::to_port))]
+#[tactic(auto, unfolding(crate::specs::Headings::to_port))]
 fn to_port(port: u8) -> Direction
     requires { port < 11 }
     ensures { result ≡ to_port port }
