@@ -1,5 +1,6 @@
 -- Each enum is found again from its number and its values, so these say all of it: one law, cited once for each enum.
 -- Assumes nothing.
+use Rattle.std.specs.Prelude.{Option, None, Some}
 use mathlib.Core.Path.{◌≡◌, refl, sym, ap, ◌∙◌}
 use Prim.Native.Nat.{ℕ}
 use lib.Dec.{eqb}
@@ -21,8 +22,6 @@ use Rattle.router_ports.specs.Numbers.{mode_number, mode_wanted, mode_output, ow
 use Rattle.router_ports.specs.declared.Wanted.{Wanted}
 use Rattle.router_ports.specs.declared.Mode.{Mode}
 use Rattle.router_ports.specs.declared.Mode.TheVariants.{Idle, Waiting, Routed, Spilling}
-use Rattle.router_ports.specs.declared.Owner.{Owner}
-use Rattle.router_ports.specs.declared.Owner.TheVariants.{Free, By}
 use Rattle.promises.specs.Enums.{SaysAll, EnumsNumbered}
 
 found : {Enum Values : Type 0} (number : Enum → ℕ) (values : Enum → Values) (find : ℕ → Values → Enum) →
@@ -80,12 +79,12 @@ back_mode (Waiting w) = refl
 back_mode (Routed o) = refl
 back_mode Spilling = refl
 
-abbrev find_owner : ℕ → ℕ → Owner
-find_owner n i = pick (eqb n 0) Free (By i)
+abbrev find_owner : ℕ → ℕ → Option ℕ
+find_owner n i = pick (eqb n 0) None (Some i)
 
-back_owner : (w : Owner) → find_owner (owner_number w) (owner_input w) ≡ w
-back_owner Free = refl
-back_owner (By i) = refl
+back_owner : (w : Option ℕ) → find_owner (owner_number w) (owner_input w) ≡ w
+back_owner None = refl
+back_owner (Some i) = refl
 
 abbrev find_heading : ℕ → Direction → Heading
 find_heading n d = pick (eqb n 0) End (pick (eqb n 1) Nowhere (Ports d))

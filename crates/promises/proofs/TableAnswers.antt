@@ -1,13 +1,13 @@
--- `table`: each promise is an equation with a definition, so two answers that it allows are one.
+-- `router_table`: each promise is an equation with a definition, so two answers that it allows are one.
 -- Assumes nothing.
 use mathlib.Core.Path.{sym, ◌∙◌}
 use Rattle.promises.specs.OneAnswer.{OneResult, OnePlaces}
 use Rattle.router_table.proofs.fresh.Kinds as fresh_kinds
 use Rattle.router_table.proofs.fresh.Reads as fresh_reads
-use Rattle.router_table.proofs.heading_number.Kinds as heading_number_kinds
-use Rattle.router_table.proofs.heading_number.Reads as heading_number_reads
-use Rattle.router_table.proofs.heading_values.Kinds as heading_values_kinds
-use Rattle.router_table.proofs.heading_values.Reads as heading_values_reads
+use Rattle.router_table.proofs.Heading.number.Kinds as heading_number_kinds
+use Rattle.router_table.proofs.Heading.number.Reads as heading_number_reads
+use Rattle.router_table.proofs.Heading.values.Kinds as heading_values_kinds
+use Rattle.router_table.proofs.Heading.values.Reads as heading_values_reads
 use Rattle.router_table.proofs.outside_rows.Kinds as outside_rows_kinds
 use Rattle.router_table.proofs.outside_rows.Reads as outside_rows_reads
 use Rattle.router_table.proofs.write.Kinds as write_kinds

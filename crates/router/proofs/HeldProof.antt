@@ -1,5 +1,6 @@
 -- What the answer says is read off its definition: each set bit by bit, the mark `nothing` test by test.
 -- Assumes nothing.
+use Rattle.std.specs.Prelude.{Option, None, Some}
 use mathlib.Core.Path.{◌≡◌, refl, sym, ap, ◌∙◌}
 use mathlib.Core.Bool.{Bool, true, false, not, ◌&&◌, ◌||◌, or-false}
 use Prim.Native.Nat.{ℕ, ◌<◌}
@@ -11,8 +12,6 @@ use Rattle.vocabulary.specs.Choice.{pick}
 use Rattle.router_ports.specs.Ports.{input_store, output_store, wants, mode_at, output_at, store_at}
 use Rattle.router_ports.specs.declared.Mode.{Mode}
 use Rattle.router_ports.specs.declared.Mode.TheVariants.{Idle, Waiting, Routed, Spilling}
-use Rattle.router_ports.specs.declared.Owner.{Owner}
-use Rattle.router_ports.specs.declared.Owner.TheVariants.{Free, By}
 use Rattle.router_ports.specs.Records.{Router}
 use Rattle.router_rounds.specs.Grants.{waits_for}
 use Rattle.router.specs.Refusals.{held_refusal}
@@ -62,12 +61,12 @@ in_says (Waiting w) unmoved h = (cc, cc)
 in_says (Routed o) unmoved h = (cc, cc)
 in_says Spilling unmoved h = (cc, cc)
 
-out_says : (w : Owner) (untaken wanted : ℕ) → nothing_at_output w untaken wanted ≡ true →
-    (w ≡ Free) × (untaken ≡ 0) × (wanted ≡ 0)
-out_says Free untaken wanted h =
+out_says : (w : Option ℕ) (untaken wanted : ℕ) → nothing_at_output w untaken wanted ≡ true →
+    (w ≡ None) × (untaken ≡ 0) × (wanted ≡ 0)
+out_says None untaken wanted h =
     let two = both_hold (eqb untaken 0) (eqb wanted 0) h in
     (refl, eqb-true untaken 0 two.0, eqb-true wanted 0 two.1)
-out_says (By i) untaken wanted h = (cc, cc, cc)
+out_says (Some i) untaken wanted h = (cc, cc, cc)
 
 mark_means : (s : Router) (port : ℕ) → nothing_held s port ≡ true → NothingHeld s port
 unfolding nothing_held

@@ -1,14 +1,12 @@
 -- What is still held through a port: what its input does and has waiting, who holds its output and what waits there, which
 -- inputs wait for it, and which inputs have N-Chars waiting that no round has moved yet.
 -- Assumes nothing.
-use Rattle.std.specs.Prelude.{◌≡◌, Bool, true, false, not, ◌&&◌, ◌||◌, ℕ, zero, suc, ◌+◌, ◌*◌, ◌<◌, eqb}
+use Rattle.std.specs.Prelude.{◌≡◌, Bool, true, false, not, ◌&&◌, ◌||◌, ℕ, zero, suc, ◌+◌, ◌*◌, ◌<◌, eqb, Option, None, Some}
 use Rattle.vocabulary.specs.Choice.{pick}
 use Rattle.store.specs.Ring.{empty}
 use Rattle.router_ports.specs.Ports.{input_store, output_store, wants, mode_at, output_at, store_at}
 use Rattle.router_ports.specs.declared.Mode.{Mode}
 use Rattle.router_ports.specs.declared.Mode.TheVariants.{Idle, Waiting, Routed, Spilling}
-use Rattle.router_ports.specs.declared.Owner.{Owner}
-use Rattle.router_ports.specs.declared.Owner.TheVariants.{Free, By}
 use Rattle.router_ports.specs.Records.{Router}
 use Rattle.router_rounds.specs.Grants.{waits_for}
 use Rattle.router.specs.Refusals.{held_refusal}
@@ -54,9 +52,9 @@ nothing_at_input (Routed o) unmoved = false
 nothing_at_input Spilling unmoved = false
 
 -- an output is free with nothing waiting, and no input waits for it
-abbrev pub nothing_at_output : Owner → ℕ → ℕ → Bool
-nothing_at_output Free untaken wanted = eqb untaken 0 && eqb wanted 0
-nothing_at_output (By i) untaken wanted = false
+abbrev pub nothing_at_output : Option ℕ → ℕ → ℕ → Bool
+nothing_at_output None untaken wanted = eqb untaken 0 && eqb wanted 0
+nothing_at_output (Some i) untaken wanted = false
 
 unfoldable pub nothing_held : Router → ℕ → Bool
 nothing_held s port =
@@ -84,7 +82,7 @@ held_refused number =
       refusal = number;
       mode = Idle;
       unmoved = 0;
-      owner = Free;
+      owner = None;
       untaken = 0;
       wanted = 0;
       unread = 0;
@@ -105,7 +103,7 @@ pub record SetsSay (s : Router) (port : ℕ) : Type 0 where
 pub record NothingHeld (s : Router) (port : ℕ) : Type 0 where
   pub mode : mode_at s port ≡ Idle
   pub unmoved : (store_at s (input_store port)).len ≡ 0
-  pub owner : (output_at s port).owner ≡ Free
+  pub owner : (output_at s port).owner ≡ None
   pub untaken : (store_at s (output_store port)).len ≡ 0
   pub unwanted : (i : ℕ) → i < 11 → awaits port (mode_at s i) ≡ false
 

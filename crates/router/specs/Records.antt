@@ -1,8 +1,7 @@
 -- What calls on the router answer that is more than a refusal.
 -- Assumes nothing.
-use Rattle.std.specs.Prelude.{ℕ, Bool}
+use Rattle.std.specs.Prelude.{ℕ, Bool, Option}
 use Rattle.router_ports.specs.declared.Mode.{Mode}
-use Rattle.router_ports.specs.declared.Owner.{Owner}
 
 pub record RowRead : Type 0 where
   pub refusal : ℕ
@@ -15,7 +14,7 @@ pub record StillHeld : Type 0 where
   pub refusal : ℕ
   pub mode : Mode
   pub unmoved : ℕ
-  pub owner : Owner
+  pub owner : Option ℕ
   pub untaken : ℕ
   pub wanted : ℕ
   pub unread : ℕ

@@ -5,7 +5,7 @@ ghost use Rattle.router_ports.specs.RouterWords.{router_of};
 ghost use Rattle.router.specs.Held.{awaits, unmoved_at, behind, sets_of, nothing_at_input, nothing_at_output, held_through};
 ghost use Rattle.router.specs.HeldCalls.{held_words};
 
-use router_ports::{Mode, Owner, PORTS, Wanted, Words};
+use router_ports::{Mode, PORTS, Wanted, Words};
 
 // How many words are answered.
 pub const WORDS: usize = 11;
@@ -84,19 +84,19 @@ fn nothing_at_input(mode: Mode, unmoved: usize) -> bool
     }
 }
 
-fn nothing_at_output(owner: Owner, untaken: usize, wanted: u16) -> bool
+fn nothing_at_output(owner: untaken: usize, wanted: u16) -> bool
     ensures { result ≡ nothing_at_output owner untaken wanted }
 {
     match owner {
-        Owner::Free => if untaken == 0 { wanted == 0 } else { false },
-        Owner::By(_) => false,
+        None => if untaken == 0 { wanted == 0 } else { false },
+        Some(_) => false,
     }
 }
 
 fn held_words(
     mode: Mode,
     unmoved: usize,
-    owner: Owner,
+    owner: Option<usize>,
     untaken: usize,
     inputs: Sets,
     nothing: bool,

@@ -1,5 +1,6 @@
 -- Whatever happens to the ports in a round, there is a journal afterwards.
 -- Assumes nothing.
+use Rattle.std.specs.Prelude.{Some}
 use mathlib.Core.Path.{◌≡◌, refl, sym, ap, subst, ◌∙◌}
 use mathlib.Core.Bool.{Bool, true, false}
 use mathlib.Core.List.{List, [], ◌∷◌, ◌++◌, append_assoc, Memᴰ}
@@ -16,7 +17,6 @@ use Rattle.router_table.specs.declared.Heading.TheVariants.{End, Nowhere, Ports}
 use Rattle.router_ports.specs.Ports.{input_store, output_store}
 use Rattle.router_ports.specs.declared.Mode.{Mode}
 use Rattle.router_ports.specs.declared.Mode.TheVariants.{Idle, Routed, Spilling}
-use Rattle.router_ports.specs.declared.Owner.TheVariants.{By}
 use Rattle.router_ports.specs.declared.Output.{Output}
 use Rattle.router_rounds.specs.Addresses.{waits}
 use Rattle.router_rounds.specs.Model.{Model, model}
@@ -32,9 +32,9 @@ use Rattle.router_packets.proofs.InputLaws.{ending, finishes, moved, goes_on, ol
 
 -- an owner is routed to its output, and a routed input owns it
 pub record Owners (y : Model) : Type 0 where
-  pub routed : (i o : ℕ) → i < 11 → y.modes i ≡ Routed o → (o < 11) × ((y.outputs o).owner ≡ By i)
-  pub owned : (o i : ℕ) → o < 11 → (y.outputs o).owner ≡ By i → y.modes i ≡ Routed o
-  pub inside : (o i : ℕ) → o < 11 → (y.outputs o).owner ≡ By i → i < 11
+  pub routed : (i o : ℕ) → i < 11 → y.modes i ≡ Routed o → (o < 11) × ((y.outputs o).owner ≡ Some i)
+  pub owned : (o i : ℕ) → o < 11 → (y.outputs o).owner ≡ Some i → y.modes i ≡ Routed o
+  pub inside : (o i : ℕ) → o < 11 → (y.outputs o).owner ≡ Some i → i < 11
 
 spilling_unrouted : (o : ℕ) → ◌≡◌ {A = Mode} Spilling (Routed o) → ⊥
 spilling_unrouted o e = let z : ◌≡◌ {A = ℕ} 0 1 = cc in omega arith
@@ -56,7 +56,7 @@ module _ (was : Model) (l : Ledger) (N : ℕ) (table : List ℕ) (stood : Memᴰ
 
   -- an input that is not routed owns nothing
   owns_nothing : (m : Mode) → y.modes i ≡ m → ((o : ℕ) → m ≡ Routed o → ⊥) → (p q : Part) →
-      (o : ℕ) → o < 11 → (y.outputs o).owner ≡ By i → p.cargo ≡ q.cargo
+      (o : ℕ) → o < 11 → (y.outputs o).owner ≡ Some i → p.cargo ≡ q.cargo
   owns_nothing m e free p q o k w = absurd (free o (sym e ∙ owners.owned o i k w))
 
   pub more_unended : (c : ℕ) → holds_end (here.header ++ here.cargo) ≡ false → is_end c ≡ false →

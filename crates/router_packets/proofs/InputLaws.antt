@@ -1,5 +1,6 @@
 -- What can happen to the packet that an input is in, with every other input as it was.
 -- Assumes nothing.
+use Rattle.std.specs.Prelude.{Option, None, Some}
 use mathlib.Core.Path.{◌≡◌, refl, sym, ap, ◌∙◌}
 use mathlib.Core.Bool.{true}
 use mathlib.Core.List.{List, [], ◌∷◌, ◌++◌, Memᴰ}
@@ -10,8 +11,6 @@ use Rattle.vocabulary.specs.NChars.{is_end}
 use Rattle.router_ports.specs.Ports.{input_store, output_store}
 use Rattle.router_ports.specs.declared.Mode.{Mode}
 use Rattle.router_ports.specs.declared.Mode.TheVariants.{Idle}
-use Rattle.router_ports.specs.declared.Owner.{Owner}
-use Rattle.router_ports.specs.declared.Owner.TheVariants.{Free, By}
 use Rattle.router_rounds.specs.Model.{Model, at}
 use Rattle.router_rings.proofs.RingProof.{at_same}
 use Rattle.router_packets.specs.Ledger.{Ledger}
@@ -27,16 +26,16 @@ pub nothing_yet : (lent : List (List ℕ)) (held : List ℕ) → InProgress lent
 nothing_yet lent held = record { unended = nothing_unended; mode = (refl, refl) }
 
 -- what an owner has moved is the same, unless it is this input and it moved something
-pub owner_same : (parts : ℕ → Part) (i : ℕ) (p : Part) (w : Owner) → (w ≡ By i → p.cargo ≡ (parts i).cargo) →
+pub owner_same : (parts : ℕ → Part) (i : ℕ) (p : Part) (w : Option ℕ) → (w ≡ Some i → p.cargo ≡ (parts i).cargo) →
     by_owner (at parts i p) w ≡ by_owner parts w
-owner_same parts i p Free same = refl
-owner_same parts i p (By j) same = go (ℕ_discrete j i)
+owner_same parts i p None same = refl
+owner_same parts i p (Some j) same = go (ℕ_discrete j i)
   where
     go : Dec (j ≡ i) → (at parts i p j).cargo ≡ (parts j).cargo
-    go (yes e) = rw (e, eq-eqb i i refl) (same (ap By e))
+    go (yes e) = rw (e, eq-eqb i i refl) (same (ap Some e))
     go (no d) = rw (ne_eqb j i d)
 
-pub mine_moved : (parts : ℕ → Part) (i : ℕ) (p : Part) → by_owner (at parts i p) (By i) ≡ p.cargo
+pub mine_moved : (parts : ℕ → Part) (i : ℕ) (p : Part) → by_owner (at parts i p) (Some i) ≡ p.cargo
 mine_moved parts i p = ap (λ (q : Part). q.cargo) (at_same parts i p)
 
 module _ (was : Model) (l : Ledger) (y : Model) (s : Since was l y) (i : ℕ) (h : i < 11) where
@@ -101,7 +100,7 @@ module _ (was : Model) (l : Ledger) (y : Model) (s : Since was l y) (i : ℕ) (h
   pub still_entered : (y' : Model) (part' : Part) →
       ((o : ℕ) → o < 11 → y'.held (output_store o) ≡ y.held (output_store o)) →
       ((o : ℕ) → o < 11 → (y'.outputs o).owner ≡ (y.outputs o).owner) →
-      ((o : ℕ) → o < 11 → (y.outputs o).owner ≡ By i → part'.cargo ≡ part.cargo) →
+      ((o : ℕ) → o < 11 → (y.outputs o).owner ≡ Some i → part'.cargo ≡ part.cargo) →
       (finished' : List Packet) → ((o : ℕ) → sent_to o finished' ≡ sent_to o s.finished) → Entered y' finished' part'
   still_entered y' part' same_held same_owner same_cargo finished' same_sent o k clear =
       rw (same_held o k, same_owner o k, same_sent o, owner_same s.parts i part' (y.outputs o).owner (same_cargo o k))

@@ -1,5 +1,6 @@
 -- A grant, a move of one N-Char and the move of an end: there is a journal afterwards, and the output holds what it had and that one.
 -- Assumes nothing.
+use Rattle.std.specs.Prelude.{Option, None, Some}
 use mathlib.Core.Path.{◌≡◌, refl, sym, ap, subst, ◌∙◌}
 use mathlib.Core.Bool.{Bool, true, false, ◌&&◌, false≢true}
 use mathlib.Core.List.{List, [], ◌∷◌, ◌++◌, append_assoc, append-nil, Memᴰ}
@@ -12,8 +13,6 @@ use Rattle.router_ports.specs.Ports.{wants, input_store, output_store}
 use Rattle.router_ports.specs.declared.Wanted.{Wanted}
 use Rattle.router_ports.specs.declared.Mode.{Mode}
 use Rattle.router_ports.specs.declared.Mode.TheVariants.{Idle, Waiting, Routed, Spilling}
-use Rattle.router_ports.specs.declared.Owner.{Owner}
-use Rattle.router_ports.specs.declared.Owner.TheVariants.{Free, By}
 use Rattle.router_rounds.specs.Grants.{same, waits_for}
 use Rattle.router_rounds.specs.Moves.{frees, carries}
 use Rattle.router_rounds.specs.Model.{Model, model, at}
@@ -69,7 +68,7 @@ module _ (was : Model) (l : Ledger) (N : ℕ) (table : List ℕ) (stood : Memᴰ
   goes_there held high (Routed p) w st = absurd (false≢true w)
   goes_there held high Spilling w st = absurd (false≢true w)
 
-  pub grants : (high : Bool) → (y.outputs o).owner ≡ Free → waits_for o high (y.modes i) ≡ true → Since was l (grant (model N) y o i)
+  pub grants : (high : Bool) → (y.outputs o).owner ≡ None → waits_for o high (y.modes i) ≡ true → Since was l (grant (model N) y o i)
   grants high free waiting =
       let none = no_cargo_yet (y.held (input_store i)) high (y.modes i) waiting (s.stages i h) in
       turns was l y s i h (Routed o) (goes_there (y.held (input_store i)) high (y.modes i) waiting (s.stages i h))
@@ -85,7 +84,7 @@ module _ (was : Model) (l : Ledger) (N : ℕ) (table : List ℕ) (stood : Memᴰ
       entered : here.cargo ≡ [] → (p : ℕ) → p < 11 → Clear was p → Dec (p ≡ o) →
           l.taken p ++ y.held (output_store p)
           ≡ was.held (output_store p)
-          ++ (sent_to p s.finished ++ by_owner (at s.parts i here) (at y.outputs o (record { owner = By i; last = i }) p).owner)
+          ++ (sent_to p s.finished ++ by_owner (at s.parts i here) (at y.outputs o (record { owner = Some i; last = i }) p).owner)
       entered none p q clear (yes e) =
           rw (e, eq-eqb o o refl, mine_moved s.parts i here, none) (rw (e, free) at (s.outputs p q clear))
       entered none p q clear (no d) =
@@ -113,10 +112,10 @@ module _ (was : Model) (l : Ledger) (N : ℕ) (table : List ℕ) (stood : Memᴰ
     carried_elsewhere p d =
         rw (ne_eqb (output_store p) i (λ e. apart p (sym e)), ne_eqb (output_store p) (output_store o) (λ e. d (omega arith)))
 
-    mine : (y.outputs o).owner ≡ By i
+    mine : (y.outputs o).owner ≡ Some i
     mine = (owners.routed i o h routed).1
 
-    not_mine : (p : ℕ) → p < 11 → (p ≡ o → ⊥) → (y.outputs p).owner ≡ By i → ⊥
+    not_mine : (p : ℕ) → p < 11 → (p ≡ o → ⊥) → (y.outputs p).owner ≡ Some i → ⊥
     not_mine p q d e = d (routed_once (sym (owners.owned p i q e) ∙ routed))
       where
         routed_once : ◌≡◌ {A = Mode} (Routed p) (Routed o) → p ≡ o
@@ -128,7 +127,7 @@ module _ (was : Model) (l : Ledger) (N : ℕ) (table : List ℕ) (stood : Memᴰ
     one_more_here clear sent' e =
         ap (λ (ns : List ℕ). l.taken o ++ ns) carried_here
         ∙ sym (append_assoc (l.taken o) (y.held (output_store o)) (c ∷ []))
-        ∙ ap (λ (ns : List ℕ). ns ++ c ∷ []) (s.outputs o k clear ∙ ap (λ (w : Owner). was.held (output_store o) ++ (sent_to o s.finished ++ by_owner s.parts w)) mine)
+        ∙ ap (λ (ns : List ℕ). ns ++ c ∷ []) (s.outputs o k clear ∙ ap (λ (w : Option ℕ). was.held (output_store o) ++ (sent_to o s.finished ++ by_owner s.parts w)) mine)
         ∙ append_assoc (was.held (output_store o)) (sent_to o s.finished ++ here.cargo) (c ∷ [])
         ∙ ap (λ (ns : List ℕ). was.held (output_store o) ++ ns) (append_assoc (sent_to o s.finished) here.cargo (c ∷ []) ∙ e)
 
@@ -201,7 +200,7 @@ module _ (was : Model) (l : Ledger) (N : ℕ) (table : List ℕ) (stood : Memᴰ
           others_mode = λ j b d. rw (ne_eqb j i d);
         }
 
-    freed_owner : (freed.outputs o).owner ≡ Free
+    freed_owner : (freed.outputs o).owner ≡ None
     unfolding frees
     freed_owner = rw (eq-eqb o o refl)
 

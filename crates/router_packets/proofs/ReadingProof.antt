@@ -1,5 +1,6 @@
 -- A list of bodies, each with one end and that at its end, is read as those bodies.
 -- Assumes nothing.
+use Rattle.std.specs.Prelude.{Option, None, Some}
 use mathlib.Core.Path.{◌≡◌, refl, sym, ap, ◌∙◌}
 use mathlib.Core.Bool.{Bool, true, false}
 use mathlib.Core.List.{List, [], ◌∷◌, ◌++◌, append_assoc, append-nil, Memᴰ}
@@ -10,8 +11,6 @@ use Rattle.store.specs.Packets.{holds_end}
 use Rattle.store.proofs.OrLaws.{or_left, or_right}
 use Rattle.router_ports.specs.Ports.{fresh_router}
 use Rattle.router_ports.specs.Places.{machine}
-use Rattle.router_ports.specs.declared.Owner.{Owner}
-use Rattle.router_ports.specs.declared.Owner.TheVariants.{Free, By}
 use Rattle.router.specs.Reached.{fresh}
 use Rattle.router_rings.specs.Tied.{lists_of}
 use Rattle.router_packets.specs.Ledger.{opened, after}
@@ -73,7 +72,7 @@ packets_read_whole area good calls =
     let y = lists_of l.now in
     let whole = packet_integrity area good calls in
     let owners = reached_owners (machine fresh_router area) (fresh area good) calls in
-    let unended : (o : ℕ) → o < 11 → (w : Owner) → (y.outputs o).owner ≡ w → holds_end (by_owner whole.parts w) ≡ false =
+    let unended : (o : ℕ) → o < 11 → (w : Option ℕ) → (y.outputs o).owner ≡ w → holds_end (by_owner whole.parts w) ≡ false =
     λ o k w e. owner_unended whole.parts w
     (λ i f. (whole.progress i (owners.inside o i k (e ∙ f))).unended) in
     record {
@@ -83,7 +82,7 @@ packets_read_whole area good calls =
           (unended o k (y.outputs o).owner refl);
     }
   where
-    owner_unended : (parts : ℕ → Part) (w : Owner) → ((i : ℕ) → w ≡ By i → holds_end ((parts i).header ++ (parts i).cargo) ≡ false) →
+    owner_unended : (parts : ℕ → Part) (w : Option ℕ) → ((i : ℕ) → w ≡ Some i → holds_end ((parts i).header ++ (parts i).cargo) ≡ false) →
         holds_end (by_owner parts w) ≡ false
-    owner_unended parts Free all = nothing_unended
-    owner_unended parts (By i) all = cargo_unended (parts i).header (parts i).cargo (all i refl)
+    owner_unended parts None all = nothing_unended
+    owner_unended parts (Some i) all = cargo_unended (parts i).header (parts i).cargo (all i refl)

@@ -1,5 +1,6 @@
 -- A run keeps a journal: each thing that can happen in a round does.
 -- Assumes nothing.
+use Rattle.std.specs.Prelude.{Some}
 use mathlib.Core.Path.{◌≡◌, refl, sym, ap, subst, ◌∙◌}
 use mathlib.Core.Bool.{false}
 use mathlib.Core.List.{List, ◌∷◌, Memᴰ}
@@ -11,7 +12,6 @@ use Rattle.router_ports.specs.Ports.{mode_at, output_at, store_at, input_store}
 use Rattle.router_ports.specs.Places.{Machine, size_in, places_at, empty_at, front_at}
 use Rattle.router_ports.specs.declared.Mode.{Mode}
 use Rattle.router_ports.specs.declared.Mode.TheVariants.{Routed}
-use Rattle.router_ports.specs.declared.Owner.TheVariants.{By}
 use Rattle.router_ports.specs.declared.Output.{Output}
 use Rattle.router_ports.proofs.PortLaws.{ModeOk, OwnerOk}
 use Rattle.router_rounds.specs.Grants.{waits_for}
@@ -28,8 +28,8 @@ use Rattle.router_packets.specs.Since.{Since}
 use Rattle.router_packets.proofs.DeedProofs.{Owners, empties, strays, waits_on, spills, rests}
 use Rattle.router_packets.proofs.MoveProofs.{grants, carries_on, closes}
 
-owner_ok : (n : ℕ) (x : Machine) (y : Model) → Lists n x y → (o i : ℕ) → o < 11 → (y.outputs o).owner ≡ By i →
-    OwnerOk (mode_at x.router) o (By i)
+owner_ok : (n : ℕ) (x : Machine) (y : Model) → Lists n x y → (o i : ℕ) → o < 11 → (y.outputs o).owner ≡ Some i →
+    OwnerOk (mode_at x.router) o (Some i)
 owner_ok n x y r o i k e =
     subst (OwnerOk (mode_at x.router) o) (ap (λ (out : Output). out.owner) (r.tied.outputs o) ∙ e)
     (r.sound.agree.owners o k)

@@ -1,7 +1,7 @@
 -- A journal: the packets that went through the router, each with its input, its header where that was deleted, its cargo, its own
 -- end and what became of it.
 -- Assumes nothing.
-use Rattle.std.specs.Prelude.{◌≡◌, Bool, true, false, ℕ, ◌<◌, eqb}
+use Rattle.std.specs.Prelude.{◌≡◌, Bool, true, false, ℕ, ◌<◌, eqb, Option, None, Some}
 use mathlib.Core.List.{List, [], ◌∷◌, ◌++◌, Memᴰ}
 use Rattle.vocabulary.specs.Choice.{pick}
 use Rattle.vocabulary.specs.NChars.{is_end}
@@ -14,8 +14,6 @@ use Rattle.router_ports.specs.Ports.{wants}
 use Rattle.router_ports.specs.declared.Wanted.{Wanted}
 use Rattle.router_ports.specs.declared.Mode.{Mode}
 use Rattle.router_ports.specs.declared.Mode.TheVariants.{Idle, Waiting, Routed, Spilling}
-use Rattle.router_ports.specs.declared.Owner.{Owner}
-use Rattle.router_ports.specs.declared.Owner.TheVariants.{Free, By}
 
 -- what becomes of a packet: discarded as empty, spilt, or sent to one output
 pub data Fate : Type 0 where
@@ -108,6 +106,6 @@ pub record InProgress (lent : List (List ℕ)) (held : List ℕ) (p : Part) (m :
   pub mode : InMode lent held p m
 
 -- what an output's owner has moved there of the packet it is in
-abbrev pub by_owner : (ℕ → Part) → Owner → List ℕ
-by_owner parts Free = []
-by_owner parts (By i) = (parts i).cargo
+abbrev pub by_owner : (ℕ → Part) → Option ℕ → List ℕ
+by_owner parts None = []
+by_owner parts (Some i) = (parts i).cargo

@@ -2,12 +2,11 @@
 -- after that moment. An unread packet in another input's store may be addressed to it, so that is asked too; where only that is
 -- not so, `PacketsSince` still says that the header of every packet that later leaves was read after that moment.
 -- Assumes nothing.
-use Rattle.std.specs.Prelude.{◌≡◌, true, ℕ, ◌<◌}
+use Rattle.std.specs.Prelude.{◌≡◌, true, ℕ, ◌<◌, Some}
 use mathlib.Core.List.{List, [], ◌++◌, Memᴰ}
 use Rattle.router_ports.specs.Ports.{input_store, output_store}
 use Rattle.router_ports.specs.Places.{Machine}
 use Rattle.router_ports.specs.declared.Mode.TheVariants.{Routed}
-use Rattle.router_ports.specs.declared.Owner.TheVariants.{By}
 use Rattle.router_rounds.specs.Model.{Model}
 use Rattle.router.specs.Held.{still_held}
 use Rattle.router.specs.Reached.{Reached}
@@ -29,7 +28,7 @@ pub record PutSince (port : ℕ) (l : Ledger) (y : Model) : Type 0 where
   pub moved : tails port ≡ []
   -- what left the port's output since, or waits there, are packets of the journal and what its owner has moved of one
   pub left : l.taken port ++ y.held (output_store port) ≡ sent_to port finished ++ by_owner parts (y.outputs port).owner
-  pub owner : (i : ℕ) → (y.outputs port).owner ≡ By i → InProgress l.lent (y.held (input_store i)) (parts i) (Routed port)
+  pub owner : (i : ℕ) → (y.outputs port).owner ≡ Some i → InProgress l.lent (y.held (input_store i)) (parts i) (Routed port)
 
 abbrev pub NothingHeldMeans : Type 0
 NothingHeldMeans =

@@ -1,14 +1,13 @@
 -- The same from any moment on: what comes out of an output that nothing was bound for at that moment are packets whose headers were
 -- read since, and behind what waited at that moment.
 -- Assumes nothing.
-use Rattle.std.specs.Prelude.{◌≡◌, false, ℕ, ◌<◌}
+use Rattle.std.specs.Prelude.{◌≡◌, false, ℕ, ◌<◌, None}
 use mathlib.Core.List.{List, [], ◌++◌, Memᴰ}
 use Rattle.router_ports.specs.Ports.{wants, input_store, output_store}
 use Rattle.router_ports.specs.Places.{Machine}
 use Rattle.router_ports.specs.declared.Wanted.{Wanted}
 use Rattle.router_ports.specs.declared.Mode.{Mode}
 use Rattle.router_ports.specs.declared.Mode.TheVariants.{Idle, Waiting, Routed, Spilling}
-use Rattle.router_ports.specs.declared.Owner.TheVariants.{Free}
 use Rattle.router_rounds.specs.Model.{Model}
 use Rattle.router.specs.Reached.{Reached}
 use Rattle.router_rings.specs.Tied.{lists_of}
@@ -17,7 +16,7 @@ use Rattle.router_packets.specs.Journal.{Packet, Part, put_to, sent_to, Journey,
 
 -- an output that nothing is bound for: it is free, and no input waits for it
 pub record Clear (was : Model) (o : ℕ) : Type 0 where
-  pub free : (was.outputs o).owner ≡ Free
+  pub free : (was.outputs o).owner ≡ None
   pub unwanted : (i : ℕ) → i < 11 → (w : Wanted) → was.modes i ≡ Waiting w → wants w.ports o ≡ false
 
 -- an input that is still in the packet that it was in, which is bound for no such output

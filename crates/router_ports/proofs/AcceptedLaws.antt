@@ -1,5 +1,6 @@
 -- A state that is not refused as STATE is sound: its ports agree, and its stores fit their places.
 -- Assumes nothing.
+use Rattle.std.specs.Prelude.{Option, None, Some}
 use mathlib.Core.Path.{◌≡◌, refl, ap}
 use mathlib.Core.Bool.{true, false, false≢true, not}
 use mathlib.Core.List.{List}
@@ -15,16 +16,14 @@ use Rattle.router_ports.specs.Places.{machine, size_in}
 use Rattle.router_ports.specs.Refusals.{is_owner, is_routed, bad_mode, bad_owner, bad_output, bad_port, bad_ports, bad_stores}
 use Rattle.router_ports.specs.declared.Mode.{Mode}
 use Rattle.router_ports.specs.declared.Mode.TheVariants.{Idle, Waiting, Routed, Spilling}
-use Rattle.router_ports.specs.declared.Owner.{Owner}
-use Rattle.router_ports.specs.declared.Owner.TheVariants.{Free, By}
 use Rattle.router_ports.specs.Records.{Router}
 use Rattle.router_ports.proofs.EachLaws.{none_at}
 use Rattle.router_ports.proofs.PortLaws.{ModeOk, OwnerOk, Agree}
 use Rattle.router_ports.proofs.StateLaws.{Shape, Sound}
 
-owner_is : (w : Owner) (i : ℕ) → is_owner w i ≡ true → w ≡ By i
-owner_is Free i e = absurd (false≢true e)
-owner_is (By j) i e = ap By (eqb-true j i e)
+owner_is : (w : Option ℕ) (i : ℕ) → is_owner w i ≡ true → w ≡ Some i
+owner_is None i e = absurd (false≢true e)
+owner_is (Some j) i e = ap Some (eqb-true j i e)
 
 routed_is : (m : Mode) (o : ℕ) → is_routed m o ≡ true → m ≡ Routed o
 routed_is Idle o e = absurd (false≢true e)
@@ -42,9 +41,9 @@ module _ (s : Router) where
       (omega (arith, below), owner_is (output_at s o).owner i held)
   mode_ok i Spilling e = tt
 
-  owner_ok : (o : ℕ) (w : Owner) → bad_owner s o w ≡ false → OwnerOk (mode_at s) o w
-  owner_ok o Free e = tt
-  owner_ok o (By i) e =
+  owner_ok : (o : ℕ) (w : Option ℕ) → bad_owner s o w ≡ false → OwnerOk (mode_at s) o w
+  owner_ok o None e = tt
+  owner_ok o (Some i) e =
       let below = ltb-false 10 i (or_left (ltb 10 i) (not (is_routed (mode_at s i) o)) e) in
       let routed = not-false (is_routed (mode_at s i) o) (or_right (ltb 10 i) (not (is_routed (mode_at s i) o)) e) in
       (omega (arith, below), routed_is (mode_at s i) o routed)

@@ -1,6 +1,7 @@
 -- Every router that passes the tests of put, take and run fits its words: it is sound, and what is sound fits. Loading what
 -- was saved gives it back.
 -- Assumes nothing.
+use Rattle.std.specs.Prelude.{Option, None, Some}
 use Prim.Native.Nat.{ℕ, ◌/◌, ◌%◌, ◌≤◌}
 use mathlib.Core.Path.{◌≡◌, ap}
 use mathlib.Core.Bool.{true, false, not, ◌||◌}
@@ -17,8 +18,6 @@ use Rattle.router_ports.specs.Places.{Machine, machine, size_in, bad_area}
 use Rattle.router_ports.specs.Refusals.{bad_ports, bad_stores}
 use Rattle.router_ports.specs.declared.Mode.{Mode}
 use Rattle.router_ports.specs.declared.Mode.TheVariants.{Idle, Waiting, Routed, Spilling}
-use Rattle.router_ports.specs.declared.Owner.{Owner}
-use Rattle.router_ports.specs.declared.Owner.TheVariants.{Free, By}
 use Rattle.router_ports.specs.declared.Output.{Output}
 use Rattle.router_ports.specs.Records.{Router}
 use Rattle.router_ports.specs.RouterWords.{router_words, is_router, FitsMode, FitsOwner, FitsRouter, KeepsRouters}
@@ -35,9 +34,9 @@ mode_fits outs i (Waiting w) ok =
 mode_fits outs i (Routed o) ok = omega (arith, ok.0)
 mode_fits outs i Spilling ok = tt
 
-owner_fits : (modes : ℕ → Mode) (o : ℕ) (w : Owner) → OwnerOk modes o w → FitsOwner w
-owner_fits modes o Free ok = tt
-owner_fits modes o (By i) ok = omega (arith, ok.0)
+owner_fits : (modes : ℕ → Mode) (o : ℕ) (w : Option ℕ) → OwnerOk modes o w → FitsOwner w
+owner_fits modes o None ok = tt
+owner_fits modes o (Some i) ok = omega (arith, ok.0)
 
 pub sound_fits : (n : ℕ) → n / 22 ≤ 1024 → (x : Machine) → Sound n x → FitsRouter x.router
 sound_fits n small x sound =

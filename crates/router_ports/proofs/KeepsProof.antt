@@ -1,5 +1,6 @@
 -- Loading what was saved gives it back: each number fits its word, and each mode and owner has a number of its own.
 -- Assumes nothing.
+use Rattle.std.specs.Prelude.{Option, None, Some}
 use Prim.Native.Nat.{ℕ, ◌+◌, ◌*◌, ◌^◌, ◌<◌}
 use mathlib.Core.Path.{◌≡◌, refl, sym, ap, ap₂, ◌∙◌}
 use native.Mathlib.Nat.{mod-eq_of_lt}
@@ -13,8 +14,6 @@ use Rattle.store.specs.Changes.{fresh_store}
 use Rattle.router_ports.specs.Ports.{idle, no_output, mode_at, output_at, store_at}
 use Rattle.router_ports.specs.declared.Mode.{Mode}
 use Rattle.router_ports.specs.declared.Mode.TheVariants.{Idle, Waiting, Routed, Spilling}
-use Rattle.router_ports.specs.declared.Owner.{Owner}
-use Rattle.router_ports.specs.declared.Owner.TheVariants.{Free, By}
 use Rattle.router_ports.specs.Records.{Router}
 use Rattle.store.specs.StoreWords.{store_of}
 use Rattle.router_ports.specs.RouterWords.{listed, mode_words, output_words, router_word, router_words}
@@ -30,13 +29,13 @@ mode_back (Waiting w) f = rw (mod-eq_of_lt f, truth_back w.high)
 mode_back (Routed o) f = ap Routed (mod-eq_of_lt f)
 mode_back Spilling f = refl
 
-owner_back : (w : Owner) (last : ℕ) → FitsOwner w → owner_of (word_at (output_words w last) 0) (word_at (output_words w last) 1) ≡ w
-owner_back Free last f = refl
-owner_back (By i) last f = ap By (mod-eq_of_lt f)
+owner_back : (w : Option ℕ) (last : ℕ) → FitsOwner w → owner_of (word_at (output_words w last) 0) (word_at (output_words w last) 1) ≡ w
+owner_back None last f = refl
+owner_back (Some i) last f = ap Some (mod-eq_of_lt f)
 
-last_back : (w : Owner) (last : ℕ) → last < 2 ^ 32 → word_at (output_words w last) 2 ≡ last
-last_back Free last f = mod-eq_of_lt f
-last_back (By i) last f = mod-eq_of_lt f
+last_back : (w : Option ℕ) (last : ℕ) → last < 2 ^ 32 → word_at (output_words w last) 2 ≡ last
+last_back None last f = mod-eq_of_lt f
+last_back (Some i) last f = mod-eq_of_lt f
 
 module _ (r : Router) (fits : FitsRouter r) where
   mode_at_lem : (p j : ℕ) → p < 11 → j < 3 → word_at (router_words r) (3 * p + j) ≡ word_at (mode_words (mode_at r p)) j
@@ -66,7 +65,7 @@ module _ (r : Router) (fits : FitsRouter r) where
       rw (first, output_at_lem p 1 h (omega arith)) (owner_back out.owner out.last (fits.owners p h)) in
       let last : word_at (router_words r) (3 * p + 33 + 2) ≡ out.last =
       output_at_lem p 2 h (omega arith) ∙ last_back out.owner out.last (fits.lasts p h) in
-      ap₂ (λ (w : Owner) (n : ℕ). record { owner = w; last = n }) owner last ∙ same
+      ap₂ (λ (w : Option ℕ) (n : ℕ). record { owner = w; last = n }) owner last ∙ same
 
   store_back : (k : ℕ) → k < 22 → store_in (router_words r) k ≡ get_or r.stores k fresh_store
   unfolding store_of

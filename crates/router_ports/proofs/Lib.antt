@@ -2,6 +2,7 @@ pub mod EachLaws
 pub mod PlaceLaws
 pub mod PortLaws
 pub mod StateLaws
+pub mod WantedLaws
 pub mod AcceptedLaws
 pub mod ListedLaws
 pub mod PlaceWords

@@ -1,5 +1,6 @@
 -- What is kept of a port or store, read from its words alone; and words that stand in a row, written one by one.
 -- Assumes nothing.
+use Rattle.std.specs.Prelude.{Option, None, Some}
 use Prim.Native.Nat.{ℕ, suc, ◌+◌, ◌-◌, ◌*◌, ◌/◌, ◌%◌, ◌<◌}
 use mathlib.Core.Path.{◌≡◌, refl, ap, ◌∙◌}
 use mathlib.Core.List.{List, [], ◌∷◌}
@@ -18,8 +19,6 @@ use Rattle.router_ports.specs.Numbers.{is_idle, is_waiting}
 use Rattle.router_ports.specs.Ports.{idle, no_output, mode_at, output_at, store_at}
 use Rattle.router_ports.specs.declared.Mode.{Mode}
 use Rattle.router_ports.specs.declared.Mode.TheVariants.{Idle, Waiting, Routed, Spilling}
-use Rattle.router_ports.specs.declared.Owner.{Owner}
-use Rattle.router_ports.specs.declared.Owner.TheVariants.{Free, By}
 use Rattle.store.specs.StoreWords.{store_words}
 use Rattle.router_ports.specs.Records.{Router}
 use Rattle.router_ports.specs.RouterWords.{mode_words, output_words, router_word, router_words, with_store_in}
@@ -72,9 +71,9 @@ mode_length (Waiting w) = refl
 mode_length (Routed o) = refl
 mode_length Spilling = refl
 
-pub output_length : (w : Owner) (last : ℕ) → length (output_words w last) ≡ 3
-output_length Free last = refl
-output_length (By i) last = refl
+pub output_length : (w : Option ℕ) (last : ℕ) → length (output_words w last) ≡ 3
+output_length None last = refl
+output_length (Some i) last = refl
 
 -- a store past the last is not changed, whatever it would hold
 pub store_picked : (words : List ℕ) (k : ℕ) (st old : Store) →

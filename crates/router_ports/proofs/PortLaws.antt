@@ -1,6 +1,7 @@
 -- Inputs and outputs that agree: a routed input owns its output, an owner is routed to it. What can happen to a port keeps
 -- it. Stated over what each input does and how each output stands, so that it holds of any way to keep them.
 -- Assumes nothing.
+use Rattle.std.specs.Prelude.{Option, None, Some}
 use mathlib.Core.Path.{◌≡◌, refl, ap, subst, ◌∙◌}
 use mathlib.Core.Bool.{false}
 use Prim.Native.Nat.{ℕ, ◌<◌}
@@ -9,19 +10,17 @@ use native.Mathlib.Omega.{arith}
 use Rattle.router_ports.specs.Refusals.{bad_wanted}
 use Rattle.router_ports.specs.declared.Mode.{Mode}
 use Rattle.router_ports.specs.declared.Mode.TheVariants.{Idle, Waiting, Routed, Spilling}
-use Rattle.router_ports.specs.declared.Owner.{Owner}
-use Rattle.router_ports.specs.declared.Owner.TheVariants.{Free, By}
 use Rattle.router_ports.specs.declared.Output.{Output}
 
 abbrev pub ModeOk : (ℕ → Output) → ℕ → Mode → Type 0
 ModeOk outs i Idle = Unit {0}
 ModeOk outs i (Waiting w) = bad_wanted w ≡ false
-ModeOk outs i (Routed o) = (o < 11) × ((outs o).owner ≡ By i)
+ModeOk outs i (Routed o) = (o < 11) × ((outs o).owner ≡ Some i)
 ModeOk outs i Spilling = Unit {0}
 
-abbrev pub OwnerOk : (ℕ → Mode) → ℕ → Owner → Type 0
-OwnerOk modes o Free = Unit {0}
-OwnerOk modes o (By i) = (i < 11) × (modes i ≡ Routed o)
+abbrev pub OwnerOk : (ℕ → Mode) → ℕ → Option ℕ → Type 0
+OwnerOk modes o None = Unit {0}
+OwnerOk modes o (Some i) = (i < 11) × (modes i ≡ Routed o)
 
 pub record Agree (modes : ℕ → Mode) (outs : ℕ → Output) : Type 0 where
   pub inputs : (i : ℕ) → i < 11 → ModeOk outs i (modes i)
@@ -34,16 +33,16 @@ Unrouted m = (o : ℕ) → m ≡ Routed o → ⊥
 -- carried over where what they name has not changed
 
 mode_moved : (outs outs' : ℕ → Output) (i : ℕ) (m : Mode) →
-    ((o : ℕ) → m ≡ Routed o → (outs o).owner ≡ By i → (outs' o).owner ≡ (outs o).owner) → ModeOk outs i m → ModeOk outs' i m
+    ((o : ℕ) → m ≡ Routed o → (outs o).owner ≡ Some i → (outs' o).owner ≡ (outs o).owner) → ModeOk outs i m → ModeOk outs' i m
 mode_moved outs outs' i Idle same ok = ok
 mode_moved outs outs' i (Waiting w) same ok = ok
 mode_moved outs outs' i (Routed o) same ok = (ok.0, same o refl ok.1 ∙ ok.1)
 mode_moved outs outs' i Spilling same ok = ok
 
-owner_moved : (modes modes' : ℕ → Mode) (o : ℕ) (w : Owner) →
+owner_moved : (modes modes' : ℕ → Mode) (o : ℕ) (w : Option ℕ) →
     ((i : ℕ) → modes i ≡ Routed o → modes' i ≡ modes i) → OwnerOk modes o w → OwnerOk modes' o w
-owner_moved modes modes' o Free same ok = ok
-owner_moved modes modes' o (By i) same ok = (ok.0, same i ok.1 ∙ ok.1)
+owner_moved modes modes' o None same ok = ok
+owner_moved modes modes' o (Some i) same ok = (ok.0, same i ok.1 ∙ ok.1)
 
 -- one input changed: from `modes` to `modes'`, which differ at i alone
 pub record OneInput (modes modes' : ℕ → Mode) (i : ℕ) (m : Mode) : Type 0 where
@@ -74,8 +73,8 @@ module _ (modes modes' : ℕ → Mode) (outs outs' : ℕ → Output) (i : ℕ) (
 
   module _ (o : ℕ) (h : o < 11) where
     -- a free output takes an input that is not routed
-    pub taken_agrees : OneInput modes modes' i (Routed o) → OneOutput outs outs' o (record { owner = By i; last = i }) →
-        i < 11 → Unrouted (modes i) → (outs o).owner ≡ Free → Agree modes' outs'
+    pub taken_agrees : OneInput modes modes' i (Routed o) → OneOutput outs outs' o (record { owner = Some i; last = i }) →
+        i < 11 → Unrouted (modes i) → (outs o).owner ≡ None → Agree modes' outs'
     taken_agrees one out b free none =
         record {
           inputs = λ j k. input j k (ℕ_discrete j i);
@@ -104,7 +103,7 @@ module _ (modes modes' : ℕ → Mode) (outs outs' : ℕ → Output) (i : ℕ) (
 
     -- an end frees both
     pub freed_agrees : OneInput modes modes' i Idle →
-        OneOutput outs outs' o (record { owner = Free; last = (outs o).last }) → i < 11 → modes i ≡ Routed o →
+        OneOutput outs outs' o (record { owner = None; last = (outs o).last }) → i < 11 → modes i ≡ Routed o →
         Agree modes' outs'
     freed_agrees one out b routed =
         record {
@@ -113,7 +112,7 @@ module _ (modes modes' : ℕ → Mode) (outs outs' : ℕ → Output) (i : ℕ) (
           lasts = λ p k. last p k (ℕ_discrete p o);
         }
       where
-        mine : (outs o).owner ≡ By i
+        mine : (outs o).owner ≡ Some i
         mine = (subst (ModeOk outs i) routed (agree.inputs i b)).1
 
         input : (j : ℕ) → j < 11 → Dec (j ≡ i) → ModeOk outs' j (modes' j)

@@ -1,6 +1,7 @@
 -- The state of a router whose ports agree and whose stores fit their places is not refused as STATE, and the changes to a
 -- mode, an output and a store touch nothing else.
 -- Assumes nothing.
+use Rattle.std.specs.Prelude.{Option, None, Some}
 use mathlib.Core.Path.{◌≡◌, refl, ◌∙◌}
 use mathlib.Core.Bool.{Bool, true, false}
 use Prim.Native.Nat.{ℕ, zero, suc, ◌+◌, ◌*◌, ◌≤◌, ◌<◌}
@@ -22,8 +23,6 @@ use Rattle.router_ports.specs.Places.{Machine, size_in, places_at, with_places, 
 use Rattle.router_ports.specs.Refusals.{bad_mode, bad_owner, bad_port, bad_ports, bad_stores}
 use Rattle.router_ports.specs.declared.Mode.{Mode}
 use Rattle.router_ports.specs.declared.Mode.TheVariants.{Idle, Waiting, Routed, Spilling}
-use Rattle.router_ports.specs.declared.Owner.{Owner}
-use Rattle.router_ports.specs.declared.Owner.TheVariants.{Free, By}
 use Rattle.router_ports.specs.declared.Output.{Output}
 use Rattle.router_ports.specs.Records.{Router}
 use Rattle.router_ports.proofs.PlaceLaws.{places_length}
@@ -245,9 +244,9 @@ mode_good s i (Waiting w) ok = ok
 mode_good s i (Routed o) ok = rw (le-ltb 10 o (omega (arith, ok.0)), ok.1, eq-eqb i i refl)
 mode_good s i Spilling ok = refl
 
-owner_good : (s : Router) (o : ℕ) (w : Owner) → OwnerOk (mode_at s) o w → bad_owner s o w ≡ false
-owner_good s o Free ok = refl
-owner_good s o (By i) ok = rw (le-ltb 10 i (omega (arith, ok.0)), ok.1, eq-eqb o o refl)
+owner_good : (s : Router) (o : ℕ) (w : Option ℕ) → OwnerOk (mode_at s) o w → bad_owner s o w ≡ false
+owner_good s o None ok = refl
+owner_good s o (Some i) ok = rw (le-ltb 10 i (omega (arith, ok.0)), ok.1, eq-eqb o o refl)
 
 pub any_none : (f : ℕ → Bool) (bound : ℕ) → ((k : ℕ) → k < bound → f k ≡ false) → (from count : ℕ) → from + count ≤ bound →
     any f from count ≡ false

@@ -1,5 +1,6 @@
 -- The tests of a router's words, port by port, say whether the words keep a router and whether it is refused as STATE.
 -- Assumes nothing.
+use Rattle.std.specs.Prelude.{Option, None, Some}
 use mathlib.Core.Path.{◌≡◌, refl, sym, ap, ap₂, ◌∙◌}
 use mathlib.Core.Bool.{Bool, true, false, false≢true, not, ◌&&◌, ◌||◌}
 use mathlib.Core.List.{List}
@@ -27,8 +28,6 @@ use Rattle.router_ports.specs.RouterWords.{wanted_of, mode_of, owner_of, input_i
 use Rattle.router_ports.specs.StateWords.{bad_state, held_by, routed_to, bad_mode, bad_owner, bad_input_in, bad_output_in, bad_port_in}
 use Rattle.router_ports.specs.declared.Mode.{Mode}
 use Rattle.router_ports.specs.declared.Mode.TheVariants.{Idle, Waiting, Routed, Spilling}
-use Rattle.router_ports.specs.declared.Owner.{Owner}
-use Rattle.router_ports.specs.declared.Owner.TheVariants.{Free, By}
 use Rattle.router_ports.specs.declared.Output.{Output}
 use Rattle.router_ports.proofs.EachLaws.{none_at, or_true, or_false}
 use Rattle.router_ports.proofs.StateLaws.{any_none}
@@ -117,9 +116,9 @@ module _ (b c : ℕ) where
 
 -- and of an owner, where `routed` says whether it is routed to the output
 
-abbrev disowned : Bool → Owner → Bool
-disowned routed Free = false
-disowned routed (By i) = ltb 10 i || not routed
+abbrev disowned : Bool → Option ℕ → Bool
+disowned routed None = false
+disowned routed (Some i) = ltb 10 i || not routed
 
 owner_words : (n input last : ℕ) (routed : Bool) → ((input < 11 → ⊥) → routed ≡ false) →
     bad_owner n input last routed
@@ -200,7 +199,7 @@ not_true false e = sym e
 owned_is : (n input i : ℕ) → pick (eqb n 1) (eqb input i) false ≡ is_owner (owner_of n input) i
 owned_is n input i = go (eqb n 1)
   where
-    go : (b : Bool) → pick b (eqb input i) false ≡ is_owner (pick b (By input) Free) i
+    go : (b : Bool) → pick b (eqb input i) false ≡ is_owner (pick b (Some input) None) i
     go true = refl
     go false = refl
 
@@ -230,10 +229,10 @@ routed_value n value high o e = go (eqb n 1) (eqb n 2) (eqb n 3) e
     go false false true z = cc
     go false false false z = cc
 
-owner_value : (n input i : ℕ) → owner_of n input ≡ By i → input ≡ i
+owner_value : (n input i : ℕ) → owner_of n input ≡ Some i → input ≡ i
 owner_value n input i e = go (eqb n 1) e
   where
-    go : (b : Bool) → pick b (By input) Free ≡ By i → input ≡ i
+    go : (b : Bool) → pick b (Some input) None ≡ Some i → input ≡ i
     go true z = cc
     go false z = cc
 
@@ -266,10 +265,10 @@ module _ (words : List ℕ) where
       go (no l) = rw (lt-ltb 10 o (omega (arith, l)))
   refused_is i Spilling held same = refl
 
-  disowned_is : (o : ℕ) (w : Owner) (routed : Bool) → ((i : ℕ) → w ≡ By i → i < 11 → routed ≡ is_routed (mode_at s i) o) →
+  disowned_is : (o : ℕ) (w : Option ℕ) (routed : Bool) → ((i : ℕ) → w ≡ Some i → i < 11 → routed ≡ is_routed (mode_at s i) o) →
       disowned routed w ≡ rules.bad_owner s o w
-  disowned_is o Free routed same = refl
-  disowned_is o (By i) routed same = go (dec_lt i 11)
+  disowned_is o None routed same = refl
+  disowned_is o (Some i) routed same = go (dec_lt i 11)
     where
       go : Dec (i < 11) → ltb 10 i || not routed ≡ ltb 10 i || not (is_routed (mode_at s i) o)
       go (yes l) = rw (same i refl l)

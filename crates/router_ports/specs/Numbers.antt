@@ -1,12 +1,10 @@
 -- What an input does and what an output is held by: each case by number, with the values that it carries. A case that
 -- carries no such value has zero.
 -- Assumes nothing.
-use Rattle.std.specs.Prelude.{ℕ, Bool, true, false}
+use Rattle.std.specs.Prelude.{ℕ, Bool, true, false, Option, None, Some}
 use Rattle.router_ports.specs.declared.Wanted.{Wanted}
 use Rattle.router_ports.specs.declared.Mode.{Mode}
 use Rattle.router_ports.specs.declared.Mode.TheVariants.{Idle, Waiting, Routed, Spilling}
-use Rattle.router_ports.specs.declared.Owner.{Owner}
-use Rattle.router_ports.specs.declared.Owner.TheVariants.{Free, By}
 
 -- 01, The router, the words of a round: "idle input", "waiting inputs", "routed input", "spilling input"
 abbrev pub mode_number : Mode → ℕ
@@ -45,11 +43,11 @@ mode_output (Routed o) = o
 mode_output Spilling = 0
 
 -- "free output", or one with an owner
-abbrev pub owner_number : Owner → ℕ
-owner_number Free = 0
-owner_number (By i) = 1
+abbrev pub owner_number : Option ℕ → ℕ
+owner_number None = 0
+owner_number (Some i) = 1
 
 -- the input that owns it
-abbrev pub owner_input : Owner → ℕ
-owner_input Free = 0
-owner_input (By i) = i
+abbrev pub owner_input : Option ℕ → ℕ
+owner_input None = 0
+owner_input (Some i) = i

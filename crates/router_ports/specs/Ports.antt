@@ -1,13 +1,12 @@
 -- 01, The router: "Ports 0 to 10: 0 configuration, 1 to 8 links, 9 and 10 external." What is kept of each.
 -- A port or store past the last is idle, free or empty, and is not changed.
 -- Assumes nothing.
-use Rattle.std.specs.Prelude.{ℕ, ◌+◌, ◌/◌, ◌%◌, ◌^◌, Bool, get_or, set, replicate, eqb, ltb}
+use Rattle.std.specs.Prelude.{ℕ, ◌+◌, ◌/◌, ◌%◌, ◌^◌, Bool, get_or, set, replicate, eqb, ltb, None}
 use Rattle.vocabulary.specs.Choice.{pick}
 use Rattle.store.specs.Changes.{fresh_store}
 use Rattle.store.specs.declared.Store.{Store}
 use Rattle.router_ports.specs.declared.Mode.{Mode}
 use Rattle.router_ports.specs.declared.Mode.TheVariants.{Idle}
-use Rattle.router_ports.specs.declared.Owner.TheVariants.{Free}
 use Rattle.router_ports.specs.Records.{Input}
 use Rattle.router_ports.specs.declared.Output.{Output}
 use Rattle.router_ports.specs.Records.{Router}
@@ -28,10 +27,10 @@ idle = record { mode = Idle }
 
 -- "its last granted input (10 at the start)"
 abbrev pub free : Output
-free = record { owner = Free; last = 10 }
+free = record { owner = None; last = 10 }
 
 abbrev pub no_output : Output
-no_output = record { owner = Free; last = 0 }
+no_output = record { owner = None; last = 0 }
 
 unfoldable pub fresh_router : Router
 fresh_router =

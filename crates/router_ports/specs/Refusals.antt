@@ -2,7 +2,7 @@
 -- routed to it, or the reverse; a waiting input that wants no port"; "a store's front at or past its size, or its length
 -- beyond it". The last needs the size, and comes after 2.
 -- Assumes nothing.
-use Rattle.std.specs.Prelude.{ℕ, Bool, false, not, ◌||◌, List, eqb, ltb}
+use Rattle.std.specs.Prelude.{ℕ, Bool, false, not, ◌||◌, List, eqb, ltb, Option, None, Some}
 use Rattle.store.specs.Ring.{bad_store}
 use Rattle.router_ports.specs.Each.{any}
 use Rattle.router_ports.specs.Ports.{mode_at, output_at, store_at}
@@ -10,13 +10,11 @@ use Rattle.router_ports.specs.Places.{size_in}
 use Rattle.router_ports.specs.declared.Wanted.{Wanted}
 use Rattle.router_ports.specs.declared.Mode.{Mode}
 use Rattle.router_ports.specs.declared.Mode.TheVariants.{Idle, Waiting, Routed, Spilling}
-use Rattle.router_ports.specs.declared.Owner.{Owner}
-use Rattle.router_ports.specs.declared.Owner.TheVariants.{Free, By}
 use Rattle.router_ports.specs.Records.{Router}
 
-abbrev pub is_owner : Owner → ℕ → Bool
-is_owner Free i = false
-is_owner (By j) i = eqb j i
+abbrev pub is_owner : Option ℕ → ℕ → Bool
+is_owner None i = false
+is_owner (Some j) i = eqb j i
 
 abbrev pub is_routed : Mode → ℕ → Bool
 is_routed Idle o = false
@@ -34,9 +32,9 @@ bad_mode s i (Waiting w) = bad_wanted w
 bad_mode s i (Routed o) = ltb 10 o || not (is_owner (output_at s o).owner i)
 bad_mode s i Spilling = false
 
-abbrev pub bad_owner : Router → ℕ → Owner → Bool
-bad_owner s o Free = false
-bad_owner s o (By i) = ltb 10 i || not (is_routed (mode_at s i) o)
+abbrev pub bad_owner : Router → ℕ → Option ℕ → Bool
+bad_owner s o None = false
+bad_owner s o (Some i) = ltb 10 i || not (is_routed (mode_at s i) o)
 
 abbrev pub bad_output : Router → ℕ → Bool
 bad_output s p = bad_owner s p (output_at s p).owner || ltb 10 (output_at s p).last

@@ -1,6 +1,6 @@
 -- What the words of a router mean, and how they are written.
 -- Assumes nothing.
-use Rattle.std.specs.Prelude.{ℕ, zero, suc, ◌+◌, ◌-◌, ◌*◌, ◌/◌, ◌%◌, ◌^◌, ◌<◌, ◌≡◌, Bool, true, false, List, [], ◌∷◌, length, eqb, ltb}
+use Rattle.std.specs.Prelude.{ℕ, zero, suc, ◌+◌, ◌-◌, ◌*◌, ◌/◌, ◌%◌, ◌^◌, ◌<◌, ◌≡◌, Bool, true, false, List, [], ◌∷◌, length, eqb, ltb, Option, None, Some}
 use Rattle.std.proofs.lemmas.List.Edits.{sets}
 use Rattle.vocabulary.specs.Choice.{pick}
 use Rattle.words.specs.Words.{word_at, truth_word, truth, narrow, same}
@@ -14,8 +14,6 @@ use Rattle.router_ports.specs.Layout.{PORTS, STORES, WORDS, outputs_from, stores
 use Rattle.router_ports.specs.declared.Wanted.{Wanted}
 use Rattle.router_ports.specs.declared.Mode.{Mode}
 use Rattle.router_ports.specs.declared.Mode.TheVariants.{Idle, Waiting, Routed, Spilling}
-use Rattle.router_ports.specs.declared.Owner.{Owner}
-use Rattle.router_ports.specs.declared.Owner.TheVariants.{Free, By}
 use Rattle.router_ports.specs.Records.{Input}
 use Rattle.router_ports.specs.declared.Output.{Output}
 use Rattle.router_ports.specs.Records.{Router}
@@ -32,9 +30,9 @@ mode_words (Waiting w) = 1 ∷ w.ports ∷ truth_word w.high ∷ []
 mode_words (Routed o) = 2 ∷ narrow o ∷ 0 ∷ []
 mode_words Spilling = 3 ∷ 0 ∷ 0 ∷ []
 
-abbrev pub output_words : Owner → ℕ → List ℕ
-output_words Free last = 0 ∷ 0 ∷ narrow last ∷ []
-output_words (By i) last = 1 ∷ narrow i ∷ narrow last ∷ []
+abbrev pub output_words : Option ℕ → ℕ → List ℕ
+output_words None last = 0 ∷ 0 ∷ narrow last ∷ []
+output_words (Some i) last = 1 ∷ narrow i ∷ narrow last ∷ []
 
 abbrev pub router_word : Router → ℕ → ℕ
 router_word r k =
@@ -54,8 +52,8 @@ unfoldable pub mode_of : ℕ → ℕ → ℕ → Mode
 mode_of n value high =
     pick (eqb n 1) (Waiting (wanted_of value high)) (pick (eqb n 2) (Routed value) (pick (eqb n 3) Spilling Idle))
 
-abbrev pub owner_of : ℕ → ℕ → Owner
-owner_of n input = pick (eqb n 1) (By input) Free
+abbrev pub owner_of : ℕ → ℕ → Option ℕ
+owner_of n input = pick (eqb n 1) (Some input) None
 
 unfoldable pub input_in : List ℕ → ℕ → Input
 input_in words p =
@@ -104,9 +102,9 @@ FitsMode (Waiting w) = w.ports < 65536
 FitsMode (Routed o) = o < 2 ^ 32
 FitsMode Spilling = Unit {0}
 
-abbrev pub FitsOwner : Owner → Type 0
-FitsOwner Free = Unit {0}
-FitsOwner (By i) = i < 2 ^ 32
+abbrev pub FitsOwner : Option ℕ → Type 0
+FitsOwner None = Unit {0}
+FitsOwner (Some i) = i < 2 ^ 32
 
 pub record FitsRouter (r : Router) : Type 0 where
   pub inputs : length r.inputs ≡ 11

@@ -7,7 +7,7 @@ ghost use Rattle.vocabulary.specs.Choice.{pick};
 ghost use Rattle.words.specs.Words.{word_at};
 ghost use Rattle.store.specs.Ring.{empty, bad_store};
 ghost use Rattle.store.specs.Changes.{front_of, without_first, put_store};
-ghost use Rattle.router_ports.specs.Ports.{fresh_router, mode_at, output_at, store_at};
+ghost use Rattle.router_ports.specs.Ports.{wants, fresh_router, mode_at, output_at, store_at};
 ghost use Rattle.router_ports.specs.Numbers.{mode_number, wants_nothing, mode_wanted, mode_output, owner_number, owner_input};
 ghost use Rattle.router_ports.specs.Numbers.{is_idle, is_waiting};
 ghost use Rattle.router_ports.specs.Places.{machine, size_in, bad_area, places_at, put_at, full_at, front_at};
@@ -55,6 +55,17 @@ pub struct Wanted {
     pub high: bool,
 }
 
+impl Wanted {
+    // Whether the port is in the set: those past the set's bits are not.
+    #[tactic(auto, using(crate::proofs::WantedLaws::none_past))]
+    #[inline(always)]
+    pub fn wants(self, port: usize) -> bool
+        ensures { result ≡ wants self.ports port }
+    {
+        port < 16 && (self.ports >> port) % 2 == 1
+    }
+}
+
 // What an input does: nothing, wait, send to an output, or discard a packet through its end.
 #[derive(Clone, Copy, Drop)]
 pub enum Mode {
@@ -64,16 +75,10 @@ pub enum Mode {
     Spilling,
 }
 
-// The input that an output is held by.
-#[derive(Clone, Copy, Drop)]
-pub enum Owner {
-    Free,
-    By(usize),
-}
-
+// The input that an output is held by, and the one that it took last.
 #[derive(Clone, Copy, Drop)]
 pub struct Output {
-    pub owner: Owner,
+    pub owner: Option<usize>,
     pub last: usize,
 }
 
@@ -135,22 +140,22 @@ pub fn mode_output(m: Mode) -> usize
 }
 
 // 0 where the output is free, 1 where an input holds it.
-pub fn owner_number(w: Owner) -> u8
+pub fn owner_number(w: Option<usize>) -> u8
     ensures { result ≡ owner_number w }
 {
     match w {
-        Owner::Free => 0,
-        Owner::By(_) => 1,
+        None => 0,
+        Some(_) => 1,
     }
 }
 
 // The input that holds the output; 0 where it is free.
-pub fn owner_input(w: Owner) -> usize
+pub fn owner_input(w: Option<usize>) -> usize
     ensures { result ≡ owner_input w }
 {
     match w {
-        Owner::Free => 0,
-        Owner::By(i) => i,
+        None => 0,
+        Some(i) => i,
     }
 }
 
@@ -172,13 +177,13 @@ fn mode_words(m: Mode) -> [u32; 3]
     }
 }
 
-fn output_words(owner: Owner, last: usize) -> [u32; 3]
+fn output_words(owner: Option<usize>, last: usize) -> [u32; 3]
     ensures { result ≡ output_words owner last }
 {
     let granted = words::narrow(last);
     match owner {
-        Owner::Free => [0, 0, granted],
-        Owner::By(i) => {
+        None => [0, 0, granted],
+        Some(i) => {
             let input = words::narrow(i);
             [1, input, granted]
         }
@@ -204,13 +209,13 @@ fn mode_of(number: u32, value: u32, high: u32) -> Mode
     }
 }
 
-fn owner_of(number: u32, input: u32) -> Owner
+fn owner_of(number: u32, input: u32) -> Option<usize>
     ensures { result ≡ owner_of number input }
 {
     if number == 1 {
-        Owner::By(input as usize)
+        Some(input as usize)
     } else {
-        Owner::Free
+        None
     }
 }
 
@@ -228,7 +233,7 @@ fn output_in(words: &Words, p: usize) -> Output
 {
     let at = OUTPUT_WORDS * p + OUTPUTS_AT;
     let owner = owner_of(words[at], words[at + 1]);
-    let last = words::wide(words[at + 2]);
+    let last = words[at + 2] as usize;
     Output { owner, last }
 }
 
@@ -281,7 +286,7 @@ pub fn output_at(words: &Words, o: usize) -> Output
         output_in(words, o)
     } else {
         Output {
-            owner: Owner::Free,
+            owner: None,
             last: 0,
         }
     }
@@ -429,7 +434,7 @@ fn held_by(words: &Words, o: usize, i: usize) -> bool
     if o < PORTS {
         let at = OUTPUT_WORDS * o + OUTPUTS_AT;
         if words[at] == 1 {
-            words::wide(words[at + 1]) == i
+            words[at + 1] as usize == i
         } else {
             false
         }
@@ -439,6 +444,7 @@ fn held_by(words: &Words, o: usize, i: usize) -> bool
 }
 
 // Whether the words of an input are those of no mode, or of one that is refused as STATE.
+#[tactic(auto, unfolding(crate::specs::StateWords::bad_input_in))]
 fn bad_input(words: &Words, i: usize) -> bool
     requires { i < 11 }
     ensures { result ≡ bad_input_in words.now i }
@@ -454,7 +460,7 @@ fn bad_input(words: &Words, i: usize) -> bool
             if ALL_PORTS < value { true } else { 1 < high }
         },
         2 => if high == 0 {
-            !held_by(words, words::wide(value), i)
+            !held_by(words, value as usize, i)
         } else {
             true
         },
@@ -470,7 +476,7 @@ fn routed_to(words: &Words, i: usize, o: usize) -> bool
     if i < PORTS {
         let at = INPUT_WORDS * i;
         if words[at] == 2 {
-            words::wide(words[at + 1]) == o
+            words[at + 1] as usize == o
         } else {
             false
         }
@@ -480,23 +486,25 @@ fn routed_to(words: &Words, i: usize, o: usize) -> bool
 }
 
 // Whether the words of an output are those of no owner, or are refused as STATE.
+#[tactic(auto, unfolding(crate::specs::StateWords::bad_output_in))]
 fn bad_output(words: &Words, o: usize) -> bool
     requires { o < 11 }
     ensures { result ≡ bad_output_in words.now o }
 {
     let at = OUTPUT_WORDS * o + OUTPUTS_AT;
     let input = words[at + 1];
-    if LAST_PORT < words::wide(words[at + 2]) {
+    if LAST_PORT < words[at + 2] as usize {
         return true;
     }
     match words[at] {
         0 => input != 0,
-        1 => !routed_to(words, words::wide(input), o),
+        1 => !routed_to(words, input as usize, o),
         _ => true,
     }
 }
 
 // An idle input and a free output, which most are, are all zeros.
+#[tactic(auto, using(crate::proofs::StateWordsLaws::zeros_in))]
 fn bad_port(words: &Words, p: usize) -> bool
     requires { p < 11 }
     ensures { result ≡ bad_port_in words.now p }
@@ -505,7 +513,7 @@ fn bad_port(words: &Words, p: usize) -> bool
     let o = OUTPUT_WORDS * p + OUTPUTS_AT;
     let idle = (words[i] == 0) & (words[i + 1] == 0) & (words[i + 2] == 0);
     if idle & (words[o] == 0) & (words[o + 1] == 0) {
-        LAST_PORT < words::wide(words[o + 2])
+        LAST_PORT < words[o + 2] as usize
     } else {
         if bad_input(words, p) {
             true

@@ -1,5 +1,6 @@
 -- Each thing that can happen in a round happens to rings and lists alike, so a whole run does.
 -- Assumes nothing.
+use Rattle.std.specs.Prelude.{None, Some}
 use mathlib.Core.Path.{◌≡◌, refl, ap, subst, ◌∙◌}
 use mathlib.Core.Bool.{Bool, true, false}
 use mathlib.Core.List.{List}
@@ -19,7 +20,6 @@ use Rattle.router_ports.specs.Ports.{output_at, store_at, input_store, output_st
 use Rattle.router_ports.specs.Places.{Machine, places_at, empty_at, front_at, with_behind}
 use Rattle.router_ports.specs.declared.Mode.{Mode}
 use Rattle.router_ports.specs.declared.Mode.TheVariants.{Idle, Routed, Spilling}
-use Rattle.router_ports.specs.declared.Owner.TheVariants.{Free, By}
 use Rattle.router_ports.specs.declared.Output.{Output}
 use Rattle.router_ports.proofs.PortLaws.{ModeOk}
 use Rattle.router_ports.proofs.StateLaws.{Sound, output_shape, mode_keeps_stores, drop_sound, append_sound}
@@ -132,9 +132,9 @@ module _ (n : ℕ) (table : List ℕ) where
     closes_tied =
         let carried = carries exact x i o c in
         let lists = carries (model N) y i o c in
-        let out : Output = record { owner = Free; last = (exact.output carried o).last } in
+        let out : Output = record { owner = None; last = (exact.output carried o).last } in
         subst (λ (p : Output). Lists n (frees exact carried i o)
-        ((model N).set_mode ((model N).set_output lists o (record { owner = Free; last = p.last })) i Idle))
+        ((model N).set_mode ((model N).set_output lists o (record { owner = None; last = p.last })) i Idle))
         (carries_tied.tied.outputs o)
         (joins carried lists i o out Idle m.stands.port to carries_tied
         ((sound_kept n).frees carried i o m.stands.port still_routed carries_tied.sound))
@@ -148,7 +148,7 @@ module _ (n : ℕ) (table : List ℕ) where
         waits = waits_tied;
         grants = λ x y o i r t.
             let h = waits_below x o i t.high t.wants in
-            joins x y i o (record { owner = By i; last = i }) (Routed o) h t.port r
+            joins x y i o (record { owner = Some i; last = i }) (Routed o) h t.port r
             ((sound_kept n).takes x o i t.high t.port t.free t.wants r.sound);
         moves = λ x y i o r m. carries_tied x y i o false r m;
         closes = λ x y i o r m. closes_tied x y i o true r m;

@@ -1,5 +1,6 @@
 -- What can happen to the ports in a round, each with what is known where it happens, at two routers side by side.
 -- Assumes nothing.
+use Rattle.std.specs.Prelude.{Some}
 use mathlib.Core.Path.{◌≡◌}
 use mathlib.Core.Bool.{Bool, true, false}
 use mathlib.Core.List.{List}
@@ -11,7 +12,6 @@ use Rattle.router_table.specs.declared.Heading.TheVariants.{End, Nowhere, Ports}
 use Rattle.router_ports.specs.Ports.{input_store, output_store}
 use Rattle.router_ports.specs.declared.Mode.{Mode}
 use Rattle.router_ports.specs.declared.Mode.TheVariants.{Idle, Routed, Spilling}
-use Rattle.router_ports.specs.declared.Owner.TheVariants.{By}
 use Rattle.router_rounds.specs.Acts.{Acts, Tally}
 use Rattle.router_rounds.specs.Addresses.{waits}
 use Rattle.router_rounds.specs.Grants.{is_free, waits_for}
@@ -42,7 +42,7 @@ module _ {X : Type 0} (M : Acts X) (x : X) (i : ℕ) where
     pub wants : waits_for o high (M.mode x i) ≡ true
 
 abbrev pub grant : {X : Type 0} → Acts X → X → ℕ → ℕ → X
-grant M x o i = M.set_mode (M.set_output x o (record { owner = By i; last = i })) i (Routed o)
+grant M x o i = M.set_mode (M.set_output x o (record { owner = Some i; last = i })) i (Routed o)
 
 module _ {X Y : Type 0} (M : Acts X) (N : Acts Y) (R : X → Y → Type 0) (table : List ℕ) where
   -- what the ports show is the same

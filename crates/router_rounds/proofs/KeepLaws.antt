@@ -1,5 +1,6 @@
 -- A property of the ports that each thing that can happen to them keeps is kept by a run of any number of rounds.
 -- Assumes nothing.
+use Rattle.std.specs.Prelude.{None, Some}
 use mathlib.Core.Path.{◌≡◌, refl, sym, ap, ◌∙◌}
 use mathlib.Core.Bool.{Bool, true, false}
 use mathlib.Core.List.{List, [], ◌∷◌}
@@ -15,7 +16,6 @@ use Rattle.router_ports.specs.Each.{each}
 use Rattle.router_ports.specs.Ports.{input_store, output_store}
 use Rattle.router_ports.specs.declared.Mode.{Mode}
 use Rattle.router_ports.specs.declared.Mode.TheVariants.{Idle, Waiting, Routed, Spilling}
-use Rattle.router_ports.specs.declared.Owner.TheVariants.{Free, By}
 use Rattle.router_rounds.specs.Acts.{Acts, Tally, changed_to, count_moved, count_error, count_round}
 use Rattle.router_rounds.specs.Addresses.{waits, follows, reads, if_idle, addresses, part1}
 use Rattle.router_rounds.specs.Grants.{Candidate, Choice, nobody, input, is_free, waits_for, fits, first_that, candidates}
@@ -37,9 +37,9 @@ pub record Keeps {X : Type 0} (M : Acts X) (P : X → Type 0) : Type 0 where
   pub strays : (x : X) (i : ℕ) → i < 11 → M.mode x i ≡ Idle → P x → P (M.set_mode x i Spilling)
   pub takes : (x : X) (o i : ℕ) (high : Bool) → o < 11 → is_free (M.output x o).owner ≡ true →
       waits_for o high (M.mode x i) ≡ true → P x →
-      P (M.set_mode (M.set_output x o (record { owner = By i; last = i })) i (Routed o))
+      P (M.set_mode (M.set_output x o (record { owner = Some i; last = i })) i (Routed o))
   pub frees : (x : X) (i o : ℕ) → i < 11 → M.mode x i ≡ Routed o → P x →
-      P (M.set_mode (M.set_output x o (record { owner = Free; last = (M.output x o).last })) i Idle)
+      P (M.set_mode (M.set_output x o (record { owner = None; last = (M.output x o).last })) i Idle)
   pub rests : (x : X) (i : ℕ) → i < 11 → M.mode x i ≡ Spilling → P x → P (M.set_mode x i Idle)
 
 -- in every state of the range

@@ -1,5 +1,6 @@
 -- A round whose mark is on changed something: less is left to do than before, so the state or the area is another.
 -- Assumes nothing.
+use Rattle.std.specs.Prelude.{None, Some}
 use mathlib.Core.Path.{◌≡◌, refl, sym, ap, subst, ◌∙◌}
 use mathlib.Core.Bool.{Bool, true, false, false≢true}
 use mathlib.Core.List.{List}
@@ -15,7 +16,6 @@ use Rattle.router_ports.specs.Ports.{mode_at, output_at, store_at, input_store, 
 use Rattle.router_ports.specs.Places.{Machine, empty_at, full_at, front_at, without_front, with_behind}
 use Rattle.router_ports.specs.declared.Mode.{Mode}
 use Rattle.router_ports.specs.declared.Mode.TheVariants.{Idle, Waiting, Routed, Spilling}
-use Rattle.router_ports.specs.declared.Owner.TheVariants.{Free, By}
 use Rattle.router_ports.specs.declared.Output.{Output}
 use Rattle.router_ports.proofs.PortLaws.{ModeOk}
 use Rattle.router_ports.proofs.StateLaws.{Sound, mode_keeps_stores, drop_sound, append_sound}
@@ -99,7 +99,7 @@ module _ (n : ℕ) (table : List ℕ) where
           let waiting : waits_for o f.candidate.high (mode_at x.router i) ≡ true =
           ap (λ (j : ℕ). waits_for o f.candidate.high (mode_at x.router j)) (sym f.input) ∙ f.fits in
           let h = waits_below x o i f.candidate.high waiting in
-          let out : Output = record { owner = By i; last = i } in
+          let out : Output = record { owner = Some i; last = i } in
           let len = (store_at x.router (input_store i)).len in
           changes t t _
           (omega (
@@ -127,7 +127,7 @@ module _ (n : ℕ) (table : List ℕ) where
           ∙ (sound_kept n).append_mode x (output_store o) c i ∙ e in
           let fall = drop_falls n _ put i h (append_keeps_empty n x sound o c i h ∙ some) in
           let carried = without_front (with_behind x (output_store o) c) (input_store i) in
-          let out : Output = record { owner = Free; last = (output_at carried.router o).last } in
+          let out : Output = record { owner = None; last = (output_at carried.router o).last } in
           changes t (count_moved t) _
           (lesser (is_end c) (left x) _ _
           (omega (

@@ -1,5 +1,6 @@
 -- Rounds keep the state and the area sound, so that no state that a run leaves is refused.
 -- Assumes nothing.
+use Rattle.std.specs.Prelude.{Option, None, Some}
 use mathlib.Core.Path.{◌≡◌, refl, sym, ap, subst, ◌∙◌}
 use mathlib.Core.Bool.{Bool, true, false, false≢true}
 use mathlib.Core.List.{List}
@@ -17,8 +18,6 @@ use Rattle.router_ports.specs.Refusals.{bad_wanted}
 use Rattle.router_ports.specs.Records.{Router}
 use Rattle.router_ports.specs.declared.Mode.{Mode}
 use Rattle.router_ports.specs.declared.Mode.TheVariants.{Idle, Routed, Spilling}
-use Rattle.router_ports.specs.declared.Owner.{Owner}
-use Rattle.router_ports.specs.declared.Owner.TheVariants.{Free, By}
 use Rattle.router_ports.specs.declared.Output.{Output}
 use Rattle.router_ports.proofs.PortLaws.{Agree, ModeOk, Unrouted, OneInput, OneOutput, unrouted_agrees, taken_agrees, freed_agrees}
 use Rattle.router_ports.proofs.StateLaws.{Shape, Sound, mode_changed, mode_keeps_outputs, mode_shape, mode_fits, output_changed, output_fits}
@@ -47,9 +46,9 @@ waits_below x o i high w = go (dec_lt i 11)
     go (yes h) = h
     go (no d) = absurd (false≢true (rw (le-ltb i 11 (omega (arith, d))) at w))
 
-pub free_owner : (w : Owner) → is_free w ≡ true → w ≡ Free
-free_owner Free e = refl
-free_owner (By i) e = absurd (false≢true e)
+pub free_owner : (w : Option ℕ) → is_free w ≡ true → w ≡ None
+free_owner None e = refl
+free_owner (Some i) e = absurd (false≢true e)
 
 module _ (n : ℕ) (x : Machine) (sound : Sound n x) (i : ℕ) (h : i < 11) where
   -- an input that is not routed does something else that is no route
@@ -118,13 +117,13 @@ sound_kept n =
       strays = λ x i h e sound. turns n x sound i h Spilling (idle_unrouted _ e) tt;
       takes = λ x o i high k e w sound.
           let h = waits_below x o i high w in
-          joins n x sound i h o k (record { owner = By i; last = i }) (Routed o)
+          joins n x sound i h o k (record { owner = Some i; last = i }) (Routed o)
           (taken_agrees (mode_at x.router) _ (output_at x.router) _ i sound.agree o k
-          (one_input n x sound i h o k (record { owner = By i; last = i }) (Routed o))
-          (one_output n x sound i h o k (record { owner = By i; last = i }) (Routed o))
+          (one_input n x sound i h o k (record { owner = Some i; last = i }) (Routed o))
+          (one_output n x sound i h o k (record { owner = Some i; last = i }) (Routed o))
           h (waiting_unrouted o high _ w) (free_owner _ e));
       frees = λ x i o h e sound.
-          let out : Output = record { owner = Free; last = (output_at x.router o).last } in
+          let out : Output = record { owner = None; last = (output_at x.router o).last } in
           let k : o < 11 = (subst (ModeOk (output_at x.router) i) e (sound.agree.inputs i h)).0 in
           joins n x sound i h o k out Idle
           (freed_agrees (mode_at x.router) _ (output_at x.router) _ i sound.agree o k

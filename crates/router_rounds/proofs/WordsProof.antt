@@ -1,6 +1,7 @@
 -- A run on the words that a sound router is saved as leaves the words of what the run leaves: each thing that can happen in a
 -- round happens to words and state alike.
 -- Assumes nothing.
+use Rattle.std.specs.Prelude.{None, Some}
 use mathlib.Core.Path.{◌≡◌, refl, sym, ap, subst, ◌∙◌}
 use mathlib.Core.Bool.{Bool, true, false}
 use mathlib.Core.List.{List}
@@ -15,7 +16,6 @@ use Rattle.router_ports.specs.Ports.{output_at, store_at, input_store, output_st
 use Rattle.router_ports.specs.Places.{Machine, machine, size_in, places_at, empty_at, full_at, front_at, put_at, without_front, with_behind}
 use Rattle.router_ports.specs.declared.Mode.{Mode}
 use Rattle.router_ports.specs.declared.Mode.TheVariants.{Idle, Routed, Spilling}
-use Rattle.router_ports.specs.declared.Owner.TheVariants.{Free, By}
 use Rattle.router_ports.specs.declared.Output.{Output}
 use Rattle.router_ports.specs.Records.{Router}
 use Rattle.router_ports.proofs.PortLaws.{ModeOk}
@@ -152,9 +152,9 @@ module _ (n : ℕ) (small : n / 22 ≤ 1024) where
       closes_alike =
           let carried = carries exact x i o c in
           let words = carries in_words w i o c in
-          let out : Output = record { owner = Free; last = (exact.output carried o).last } in
+          let out : Output = record { owner = None; last = (exact.output carried o).last } in
           subst (λ (y : Machine). InWords (frees exact carried i o)
-          (in_words.set_mode (in_words.set_output words o (record { owner = Free; last = (exact.output y o).last })) i Idle))
+          (in_words.set_mode (in_words.set_output words o (record { owner = None; last = (exact.output y o).last })) i Idle))
           (loads carried words carries_alike)
           (joins carried words i o out Idle m.stands.port to carries_alike
           ((sound_kept n).frees carried i o m.stands.port still_routed carries_alike.sound))
@@ -168,7 +168,7 @@ module _ (n : ℕ) (small : n / 22 ≤ 1024) where
           waits = waits_alike;
           grants = λ x w o i r t.
               let h = waits_below x o i t.high t.wants in
-              joins x w i o (record { owner = By i; last = i }) (Routed o) h t.port r
+              joins x w i o (record { owner = Some i; last = i }) (Routed o) h t.port r
               ((sound_kept n).takes x o i t.high t.port t.free t.wants r.sound);
           moves = λ x w i o r m. carries_alike x w i o false r m;
           closes = λ x w i o r m. closes_alike x w i o true r m;

@@ -1,14 +1,12 @@
 -- 01, The router, a round's part 2: "Each free output takes, from the waiting inputs that want it, high priority before low,
 -- then the first in cyclic order after its last granted input (10 at the start)."
 -- Assumes nothing.
-use Rattle.std.specs.Prelude.{ℕ, zero, suc, ◌+◌, ◌%◌, Bool, true, false, not, ◌&&◌, List, [], ◌∷◌, ◌++◌}
+use Rattle.std.specs.Prelude.{ℕ, zero, suc, ◌+◌, ◌%◌, Bool, true, false, not, ◌&&◌, List, [], ◌∷◌, ◌++◌, Option, None, Some}
 use Rattle.vocabulary.specs.Choice.{pick}
 use Rattle.router_ports.specs.Each.{each}
 use Rattle.router_ports.specs.Ports.{wants}
 use Rattle.router_ports.specs.declared.Mode.{Mode}
 use Rattle.router_ports.specs.declared.Mode.TheVariants.{Idle, Waiting, Routed, Spilling}
-use Rattle.router_ports.specs.declared.Owner.{Owner}
-use Rattle.router_ports.specs.declared.Owner.TheVariants.{Free, By}
 use Rattle.router_rounds.specs.Acts.{Acts, Tally, changed_to}
 
 -- an input that would be taken if it waits at this priority
@@ -45,9 +43,9 @@ waits_for o high (Waiting w) = same w.high high && wants w.ports o
 waits_for o high (Routed p) = false
 waits_for o high Spilling = false
 
-abbrev pub is_free : Owner → Bool
-is_free Free = true
-is_free (By i) = false
+abbrev pub is_free : Option ℕ → Bool
+is_free None = true
+is_free (Some i) = false
 
 module _ {X : Type 0} (M : Acts X) where
   abbrev pub fits : X → ℕ → Candidate → Bool
@@ -59,7 +57,7 @@ module _ {X : Type 0} (M : Acts X) where
 
   unfoldable pub granted : Tally X → ℕ → ℕ → Tally X
   granted t o i =
-      changed_to t (M.set_mode (M.set_output t.now o (record { owner = By i; last = i })) i (Routed o))
+      changed_to t (M.set_mode (M.set_output t.now o (record { owner = Some i; last = i })) i (Routed o))
 
   abbrev pub grants_to : Tally X → ℕ → Choice → Tally X
   grants_to t o nobody = t

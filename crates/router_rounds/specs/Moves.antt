@@ -1,20 +1,19 @@
 -- 01, The router, a round's part 3: "Each routed input moves one N-Char if its output accepts it; an end frees both. Each
 -- spilling input discards one N-Char, through the end."
 -- Assumes nothing.
-use Rattle.std.specs.Prelude.{ℕ}
+use Rattle.std.specs.Prelude.{ℕ, None}
 use Rattle.vocabulary.specs.Choice.{pick}
 use Rattle.vocabulary.specs.NChars.{is_end}
 use Rattle.router_ports.specs.Each.{each}
 use Rattle.router_ports.specs.Ports.{input_store, output_store}
 use Rattle.router_ports.specs.declared.Mode.{Mode}
 use Rattle.router_ports.specs.declared.Mode.TheVariants.{Idle, Waiting, Routed, Spilling}
-use Rattle.router_ports.specs.declared.Owner.TheVariants.{Free}
 use Rattle.router_rounds.specs.Acts.{Acts, Tally, changed_to, count_moved}
 
 module _ {X : Type 0} (M : Acts X) where
   -- "an end frees both": the input is idle, the output has no owner and keeps its last granted input
   unfoldable pub frees : X → ℕ → ℕ → X
-  frees x i o = M.set_mode (M.set_output x o (record { owner = Free; last = (M.output x o).last })) i Idle
+  frees x i o = M.set_mode (M.set_output x o (record { owner = None; last = (M.output x o).last })) i Idle
 
   unfoldable pub carries : X → ℕ → ℕ → ℕ → X
   carries x i o n = M.drop_front (M.append x (output_store o) n) (input_store i)

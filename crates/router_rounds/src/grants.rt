@@ -6,7 +6,7 @@ ghost use Rattle.router_ports.specs.Ports.{wants, mode_at, output_at};
 ghost use Rattle.router_ports.specs.RouterWords.{router_of};
 
 use crate::{Totals, counts};
-use router_ports::{Mode, Output, Owner, PORTS, STORES, Wanted, Words};
+use router_ports::{Mode, Output, PORTS, STORES, Wanted, Words};
 
 fn wanted(ports: u16, o: usize) -> bool
     requires { o < 11 }
@@ -53,8 +53,8 @@ fn is_owned(state: &Words, o: usize) -> bool
     let out = router_ports::output_at(state, o);
     let owner = out.owner;
     match owner {
-        Owner::Free => false,
-        Owner::By(_) => true,
+        None => false,
+        Some(_) => true,
     }
 }
 
@@ -72,7 +72,7 @@ fn grant(c: Totals, state: &mut Words, o: usize, i: usize) -> Totals
         state,
         o,
         Output {
-            owner: Owner::By(i),
+            owner: Some(i),
             last: i,
         },
     );

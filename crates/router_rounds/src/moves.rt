@@ -4,7 +4,7 @@ ghost use Rattle.router_rounds.specs.Moves.{frees, carries, moves, moves_one, sp
 ghost use Rattle.router_rounds.specs.InWords.{kept, in_words, tally};
 
 use crate::{Totals, counts};
-use router_ports::{Mode, Output, Owner, PORTS, Words};
+use router_ports::{Mode, Output, PORTS, Words};
 
 fn free_both(state: &mut Words, i: usize, o: usize)
     ensures { (area : List ℕ) → kept state.new area ≡ frees in_words (kept state.old area) i o }
@@ -15,7 +15,7 @@ fn free_both(state: &mut Words, i: usize, o: usize)
         state,
         o,
         Output {
-            owner: Owner::Free,
+            owner: None,
             last,
         },
     );

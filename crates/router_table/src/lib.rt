@@ -2,10 +2,9 @@
 #![tactic(auto)]
 
 ghost use Rattle.std.specs.Prelude.{◌≡◌, ◌<◌};
-ghost use Rattle.router_table.specs.Rows.{fresh_table, requests, written_row, row_at, with_row, outside_rows};
-ghost use Rattle.router_table.specs.Rows.{deletes, is_high, is_invalid};
+ghost use Rattle.router_table.specs.Rows.{bit, fresh_table, requests, written_row, row_at, with_row, outside_rows};
 ghost use Rattle.router_table.specs.Headings.{to_port, by_row, row_heading, address_heading, heading};
-ghost use Rattle.router_table.specs.Headings.{heading_number, no_direction, heading_values};
+ghost use Rattle.router_table.specs.Headings.{heading_number, heading_values};
 
 pub const ROWS: usize = 256;
 
@@ -14,8 +13,15 @@ pub type Table = [u32; ROWS];
 // What a row is that requests no port: invalid.
 const INVALID: u32 = 0x80000000;
 
+// Where a row says that the header is deleted, that the priority is high, and that the row is invalid.
+const DELETES_AT: u32 = 29;
+
+const HIGH_AT: u32 = 30;
+
+const INVALID_AT: u32 = 31;
+
 // Wanted ports, bit p for port p, at which priority, and whether the header is deleted.
-#[derive(Clone, Copy, Drop)]
+#[derive(Clone, Copy, Debug, Default, PartialEq, Eq, Drop)]
 pub struct Direction {
     pub ports: u16,
     pub high: bool,
@@ -23,17 +29,48 @@ pub struct Direction {
 }
 
 // What the front N-Char of an idle input says.
-#[derive(Clone, Copy, Drop)]
+#[derive(Clone, Copy, Debug, PartialEq, Eq, Drop)]
 pub enum Heading {
     End,
     Nowhere,
     Ports(Direction),
 }
 
+impl Heading {
+    // The number of a heading: 0 an end, 1 nowhere, 2 ports.
+    pub fn number(self) -> u8
+        ensures { result ≡ heading_number self }
+    {
+        match self {
+            Heading::End => 0,
+            Heading::Nowhere => 1,
+            Heading::Ports(_) => 2,
+        }
+    }
+
+    // What a heading carries; zero where it carries nothing.
+    pub fn values(self) -> Direction
+        ensures { result ≡ heading_values self }
+    {
+        match self {
+            Heading::Ports(direction) => direction,
+            Heading::End | Heading::Nowhere => Direction::default(),
+        }
+    }
+}
+
+#[tactic(auto, unfolding(crate::specs::Rows::fresh_table))]
 pub fn fresh(table: &mut Table)
     ensures { table.new ≡ fresh_table }
 {
     *table = [INVALID; ROWS];
+}
+
+fn bit(row: u32, place: u32) -> bool
+    requires { place < 32 }
+    ensures { result ≡ bit row place }
+{
+    (row >> place) % 2 == 1
 }
 
 fn requested(row: u32) -> u16
@@ -49,50 +86,34 @@ fn written(value: u32) -> u32
     if ports == 0 {
         INVALID
     } else {
-        value / 536870912 * 536870912 + (ports as u32)
+        value / 536870912 * 536870912 + u32::from(ports)
     }
 }
 
 pub fn outside_rows(row: usize) -> bool
     ensures { result ≡ outside_rows row }
 {
-    if row < 32 { true } else { 255 < row }
+    row < 32 || 255 < row
 }
 
 // The row as a write leaves it: `write(&mut t, 39, 4)` has row 39 request port 2.
+#[tactic(auto, unfolding(crate::specs::Rows::with_row))]
 pub fn write(table: &mut Table, row: usize, value: u32)
     ensures { table.new ≡ with_row table.old row value }
 {
+    // Not by `get_mut`: it says nothing of the rows behind the borrow.
     if row < ROWS {
-        let v = written(value);
-        table[row] = v;
+        table[row] = written(value);
     }
 }
 
 pub fn read(table: &Table, row: usize) -> u32
     ensures { result ≡ row_at table.now row }
 {
-    if row < ROWS { table[row] } else { 0 }
+    table.get(row).copied().unwrap_or(0)
 }
 
-fn deletes_header(row: u32) -> bool
-    ensures { result ≡ deletes row }
-{
-    row / 536870912 % 2 == 1
-}
-
-fn is_high(row: u32) -> bool
-    ensures { result ≡ is_high row }
-{
-    row / 1073741824 % 2 == 1
-}
-
-fn is_invalid(row: u32) -> bool
-    ensures { result ≡ is_invalid row }
-{
-    row / 2147483648 % 2 == 1
-}
-
+#[tactic(auto, unfolding(crate::specs::Headings::to_port))]
 fn to_port(port: u8) -> Direction
     requires { port < 11 }
     ensures { result ≡ to_port port }
@@ -104,31 +125,26 @@ fn to_port(port: u8) -> Direction
     }
 }
 
+#[tactic(auto, unfolding(crate::specs::Headings::by_row))]
 fn by_row(row: u32) -> Direction
     ensures { result ≡ by_row row }
 {
-    let ports = requested(row);
-    let high = is_high(row);
-    let delete = deletes_header(row);
     Direction {
-        ports,
-        high,
-        delete,
+        ports: requested(row),
+        high: bit(row, HIGH_AT),
+        delete: bit(row, DELETES_AT),
     }
 }
 
+#[tactic(auto, unfolding(crate::specs::Headings::row_heading))]
 fn row_heading(row: u32) -> Heading
     ensures { result ≡ row_heading row }
 {
-    if is_invalid(row) {
-        return Heading::Nowhere;
+    if bit(row, INVALID_AT) || requested(row) == 0 {
+        Heading::Nowhere
+    } else {
+        Heading::Ports(by_row(row))
     }
-    let ports = requested(row);
-    if ports == 0 {
-        return Heading::Nowhere;
-    }
-    let d = by_row(row);
-    Heading::Ports(d)
 }
 
 #[tactic(auto, unfolding(crate::specs::Headings::address_heading))]
@@ -136,56 +152,19 @@ fn address_heading(address: u8, table: &Table) -> Heading
     ensures { result ≡ address_heading table.now address }
 {
     match address {
-        0..=10 => {
-            let d = to_port(address);
-            Heading::Ports(d)
-        }
+        0..=10 => Heading::Ports(to_port(address)),
         11..=31 => Heading::Nowhere,
-        _ => {
-            let row = read(table, address as usize);
-            row_heading(row)
-        }
+        _ => row_heading(read(table, usize::from(address))),
     }
 }
 
 // An end, an address that leads nowhere, or the ports that the packet wants.
+#[tactic(auto, unfolding(crate::specs::Headings::heading))]
 pub fn heading_of(n: u16, table: &Table) -> Heading
     ensures { result ≡ heading table.now n }
 {
-    if vocabulary::is_end(n) {
-        return Heading::End;
-    }
-    address_heading(n as u8, table)
-}
-
-// A heading's number: 0 an end, 1 nowhere, 2 ports.
-pub fn heading_number(h: Heading) -> u8
-    ensures { result ≡ heading_number h }
-{
-    match h {
-        Heading::End => 0,
-        Heading::Nowhere => 1,
-        Heading::Ports(_) => 2,
-    }
-}
-
-fn no_direction() -> Direction
-    ensures { result ≡ no_direction }
-{
-    Direction {
-        ports: 0,
-        high: false,
-        delete: false,
-    }
-}
-
-// What a heading carries; zero where it carries nothing.
-pub fn heading_values(h: Heading) -> Direction
-    ensures { result ≡ heading_values h }
-{
-    match h {
-        Heading::End => no_direction(),
-        Heading::Nowhere => no_direction(),
-        Heading::Ports(d) => d,
+    match u8::try_from(n) {
+        Ok(address) => address_heading(address, table),
+        Err(_) => Heading::End,
     }
 }

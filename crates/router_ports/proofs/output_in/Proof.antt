@@ -21,5 +21,5 @@ output_in_spec =
     (λ c. search rules)
     (λ c. search rules)
     (λ c. search rules)
-    (λ c κs. search rules)
-    (λ c. rw (c.before.before.owner_of-owner.ensures, c.wide-last.ensures)))
+    (λ c. search rules)
+    (λ c. rw c.before.owner_of-owner.ensures))

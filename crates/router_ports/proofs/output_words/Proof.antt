@@ -12,5 +12,5 @@ output_words_spec =
     (λ c. search rules)
     (λ c. search rules)
     (λ c κs. search rules)
-    (λ c. rw (c.narrow-granted.ensures, c.in-Free.is))
-    (λ c. rw (c.narrow-granted.ensures, c.in-By.is, c.narrow-input.ensures)))
+    (λ c. rw (c.narrow-granted.ensures, c.in-None.is))
+    (λ c. rw (c.narrow-granted.ensures, c.in-Some.is, c.narrow-input.ensures)))

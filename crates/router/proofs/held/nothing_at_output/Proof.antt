@@ -11,6 +11,6 @@ nothing_at_output_spec =
     (tie.spec
     (λ c. search rules)
     (λ c. search rules)
-    (λ c. rw (c.in-Free.is, eq-eqb _ _ c.if-untaken-eq0.true))
-    (λ c. rw (c.in-Free.is, ne_eqb _ _ c.if-untaken-eq0.false))
+    (λ c. rw (c.in-None.is, eq-eqb _ _ c.if-untaken-eq0.true))
+    (λ c. rw (c.in-None.is, ne_eqb _ _ c.if-untaken-eq0.false))
     (λ c. search rules))

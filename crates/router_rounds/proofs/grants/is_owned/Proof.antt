@@ -11,5 +11,5 @@ is_owned_spec =
     (λ c κs. search rules)
     (λ c. search rules)
     (λ c. search rules)
-    (λ c. rw (← c.output_at-out.ensures, c.in-Free.is))
-    (λ c. rw (← c.output_at-out.ensures, c.in-By.is)))
+    (λ c. rw (← c.output_at-out.ensures, c.in-None.is))
+    (λ c. rw (← c.output_at-out.ensures, c.in-Some.is)))
