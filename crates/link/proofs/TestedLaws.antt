@@ -7,6 +7,8 @@ use mathlib.Core.Path.{◌≡◌, refl, sym, ap, ◌∙◌}
 use mathlib.Core.Bool.{Bool, true, false, not}
 use mathlib.Core.List.{List}
 use native.Mathlib.Omega.{arith}
+use lib.Dec.{eqb}
+use borrow.Author.Tests.{ne_eqb}
 use Rattle.vocabulary.specs.Choice.{pick}
 use Rattle.vocabulary.specs.Refusals.{STATE, number, refusal_in}
 use Rattle.vocabulary.specs.declared.Refusal.{Refusal}
@@ -17,34 +19,42 @@ use Rattle.link.specs.LinkCalls.{record_refused}
 use Rattle.link.specs.InPlace.{Reads}
 use Rattle.link.proofs.LinkLaws.{own_words}
 
--- what `refuse` comes to
-abbrev pub refuses : Bool → Refusal → Result (Unit {0}) Refusal
-refuses applies r = pick applies (Err r) (Ok tt)
+-- what a test comes to, and the answer of a call that makes no other
+abbrev pub refuses : {A : Type 0} → Bool → Refusal → A → Result A Refusal
+refuses applies r answer = pick applies (Err r) (Ok answer)
 
--- a test behind which the call goes on, one that refuses it, and the last one
-pub past : {applies test : Bool} (r : Refusal) {u : Unit {0}} {n later : ℕ} → applies ≡ test → Ok u ≡ refuses applies r →
-    n ≡ later → n ≡ pick test (number r) later
-past {applies} {test} r {u} {n} {later} is e h = by applies is e
-  where
-    by : (b : Bool) → b ≡ test → Ok u ≡ refuses b r → n ≡ pick test (number r) later
-    by true p q = cc
-    by false p q = rw (sym p) h
+module _ {A : Type 0} (r : Refusal) (answer : A) where
+  -- a test behind which the call goes on
+  pub past : {applies test : Bool} {given : A} {n later : ℕ} → applies ≡ test → Ok given ≡ refuses applies r answer → n ≡ later →
+      n ≡ pick test (number r) later
+  past {applies} {test} {given} {n} {later} is e h = by applies is e
+    where
+      by : (b : Bool) → b ≡ test → Ok given ≡ refuses b r answer → n ≡ pick test (number r) later
+      by true p q = cc
+      by false p q = rw (sym p) h
 
-pub stops : {applies test : Bool} (r : Refusal) {s : Refusal} (later : ℕ) → applies ≡ test → Err s ≡ refuses applies r →
-    number s ≡ pick test (number r) later
-stops {applies} {test} r {s} later is e = by applies is e
-  where
-    by : (b : Bool) → b ≡ test → Err s ≡ refuses b r → number s ≡ pick test (number r) later
-    by true p q = rw (sym p) (cc)
-    by false p q = cc
+  pub answers : (applies : Bool) {given : A} → Ok given ≡ refuses applies r answer → given ≡ answer
+  answers applies {given} e = by applies e
+    where
+      by : (b : Bool) → Ok given ≡ refuses b r answer → given ≡ answer
+      by true q = cc
+      by false q = cc
 
-pub last : {applies test : Bool} (r : Refusal) (x : Result (Unit {0}) Refusal) → applies ≡ test → x ≡ refuses applies r →
-    refusal_in x ≡ pick test (number r) 0
-last {applies} {test} r x is e = by applies is e
-  where
-    by : (b : Bool) → b ≡ test → x ≡ refuses b r → refusal_in x ≡ pick test (number r) 0
-    by true p q = rw (sym p, q)
-    by false p q = rw (sym p, q)
+  -- one that refuses it
+  pub stops : {applies test : Bool} {s : Refusal} (later : ℕ) → applies ≡ test → Err s ≡ refuses applies r answer → number s ≡ pick test (number r) later
+  stops {applies} {test} {s} later is e = by applies is e
+    where
+      by : (b : Bool) → b ≡ test → Err s ≡ refuses b r answer → number s ≡ pick test (number r) later
+      by true p q = rw (sym p) (cc)
+      by false p q = cc
+
+  -- and the last one
+  pub last : {applies test : Bool} (x : Result A Refusal) → applies ≡ test → x ≡ refuses applies r answer → refusal_in x ≡ pick test (number r) 0
+  last {applies} {test} x is e = by applies is e
+    where
+      by : (b : Bool) → b ≡ test → x ≡ refuses b r answer → refusal_in x ≡ pick test (number r) 0
+      by true p q = rw (sym p, q)
+      by false p q = rw (sym p, q)
 
 -- what a `?` that is refused hands on
 pub handed_on : {A : Type 0} {r : Refusal} (x : Result A Refusal) → IsErr x × IsErrAnd x (λ (s : Refusal). s ≡ r) → x ≡ Err r
@@ -57,12 +67,12 @@ refused {A} r {n} x h e = ap refusal_in (handed_on x h) ∙ e
 
 -- The record comes first in every call: words that are no end's, then its numbers.
 pub last_record : (words : List ℕ) {no bad : Bool} {u : Unit {0}} (x : Result (Unit {0}) Refusal) → no ≡ not (is_link words) →
-    Ok u ≡ refuses no STATE → Reads words bad_record bad → x ≡ refuses bad STATE → refusal_in x ≡ record_refused words
+    Ok u ≡ refuses no STATE tt → Reads words bad_record bad → x ≡ refuses bad STATE tt → refusal_in x ≡ record_refused words
 last_record words {no} {bad} {u} x none e reads is = by (is_link words) refl no none e
   where
-    by : (link : Bool) → is_link words ≡ link → (b : Bool) → b ≡ not link → Ok u ≡ refuses b STATE →
+    by : (link : Bool) → is_link words ≡ link → (b : Bool) → b ≡ not link → Ok u ≡ refuses b STATE tt →
         refusal_in x ≡ pick link (pick (bad_record (link_of words)) (number STATE) 0) (number STATE)
-    by true p b q r = last STATE x (reads (link_of words) (own_words words p)) is
+    by true p b q r = last STATE tt x (reads (link_of words) (own_words words p)) is
     by false p true q r = cc
     by false p false q r = cc
 
@@ -86,3 +96,10 @@ record_stops words later r = by (is_link words) (bad_record (link_of words))
     by true true e = e
     by true false e = absurd (not_none r e)
     by false bad e = e
+
+-- tests that stand behind those of every call
+pub past_both : {n later both : ℕ} → 0 ≡ both → n ≡ later → n ≡ pick (eqb both 0) later both
+past_both e h = rw (sym e) h
+
+pub both_stops : {both : ℕ} (later : ℕ) (r : Refusal) → number r ≡ both → number r ≡ pick (eqb both 0) later both
+both_stops later r e = rw (ne_eqb _ 0 (λ z. not_none r (e ∙ z))) e

@@ -119,6 +119,7 @@ pub fn send(words: &mut Words, rx: &mut [u16], tx: &[u16]) -> Result<Sent, Refus
     Ok(Sent { discarded, token })
 }
 
+#[tactic(auto, using(words::proofs::NumberLaws::byte_back), unfolding(crate::specs::LinkWords::time_of))]
 fn time_in(time: &TimeWords) -> Time
     ensures { word_at time.now 0 < 256 → result ≡ time_of time.now }
 {

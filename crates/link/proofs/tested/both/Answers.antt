@@ -10,10 +10,10 @@ returns-in_err-record c = refused _ _ c.from_residual.ensures (record_stops c.ar
 pub returns-in_err-refuse : goal.returns-in_err-refuse
 returns-in_err-refuse c =
     refused _ _ c.from_residual-in_err-refuse.ensures
-    (past_record c.args.words.now _ c.in_ok-record.ensures (λ own. stops STORE _ c.bad_sizes.ensures c.in_err-refuse.ensures))
+    (past_record c.args.words.now _ c.in_ok-record.ensures (λ own. stops STORE tt _ c.bad_sizes.ensures c.in_err-refuse.ensures))
 
 pub returns : goal.returns
 returns c =
     past_record c.args.words.now _ c.in_ok-record.ensures
     (λ own.
-    past STORE c.bad_sizes.ensures c.in_ok-refuse.ensures (last STATE _ (c.bad_stores.ensures _ own) c.refuse-2.ensures))
+    past STORE tt c.bad_sizes.ensures c.in_ok-refuse.ensures (last STATE tt _ (c.bad_stores.ensures _ own) c.refuse-2.ensures))

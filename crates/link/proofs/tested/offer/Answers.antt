@@ -13,4 +13,4 @@ pub returns : goal.returns
 returns c =
     past_record c.args.words.now _ c.in_ok-record.ensures
     (λ own.
-    (last NOTRUN _ (ap not (c.is_in.ensures _ own)) c.refuse.ensures))
+    (last NOTRUN tt _ (ap not (c.is_in.ensures _ own)) c.refuse.ensures))
