@@ -11,7 +11,9 @@ use borrow.Author.Tests.{eq-eqb, ne_eqb, eqb-true}
 use Rattle.std.specs.Prelude.{Option}
 use Rattle.vocabulary.specs.Choice.{pick}
 use Rattle.vocabulary.specs.Refusals.{STATE, number}
+use Rattle.vocabulary.specs.declared.Refusal.{Refusal}
 use Rattle.vocabulary.specs.declared.Token.{Token}
+use Rattle.vocabulary.proofs.RefusalLaws.{not_none}
 use Rattle.words.specs.Words.{narrow, truth_word}
 use Rattle.words.specs.Arguments.{token_of}
 use Rattle.words.proofs.SameLaws.{same_is}
@@ -45,9 +47,6 @@ linked words e h = is_so (is_link words) (sym e ∙ h)
 
 pub unlinked : (words : List ℕ) {no : Bool} → no ≡ not (is_link words) → no ≡ true → is_link words ≡ false
 unlinked words e h = is_not (is_link words) (sym e ∙ h)
-
-one_more : {m n : ℕ} → m ≡ suc n → m ≡ 0 → ⊥
-one_more e z = omega (arith, sym e ∙ z)
 
 -- an answer of a call on both stores, accepted and refused
 module _ (words rx tx : List ℕ) (s : Settled) where
@@ -83,11 +82,11 @@ module _ (words rx tx : List ℕ) (s : Settled) where
           (ap (λ (ws : List ℕ). record { refusal = both_refusal (length rx) (length tx) (link_of words); state = ws; places = rx; out = 0 ∷ [] }) (sym own))
       by false e = rw e
 
-  pub refused_as : (n : ℕ) → both_refused words (length rx) (length tx) ≡ suc n →
-      record { refusal = suc n; state = words; places = rx; out = 0 ∷ [] } ≡ left
-  refused_as n e =
-      ap (λ (k : ℕ). record { refusal = k; state = words; places = rx; out = 0 ∷ [] }) (sym e)
-      ∙ sym (refused_left (one_more e))
+  pub refused_as : (r : Refusal) → number r ≡ both_refused words (length rx) (length tx) →
+      record { refusal = number r; state = words; places = rx; out = 0 ∷ [] } ≡ left
+  refused_as r e =
+      ap (λ (k : ℕ). record { refusal = k; state = words; places = rx; out = 0 ∷ [] }) e
+      ∙ sym (refused_left (λ z. not_none r (e ∙ z)))
 
 -- a refused call leaves what its words, places and zeros say, once its refusal is known
 pub told : (left : LinkLeft) (n : ℕ) (words places zeros : List ℕ) → left.refusal ≡ n → (n ≡ 0 → ⊥) →
@@ -113,10 +112,10 @@ module _ (words rx tx : List ℕ) where
       by true e = rw e (sends _ _ (both (end_of words rx tx)) (eqb (both (end_of words rx tx)) 0) refl)
       by false e = rw e
 
-  pub send_refused_as : (n : ℕ) → both_refused words (length rx) (length tx) ≡ suc n →
-      record { refusal = suc n; state = words; places = rx; out = 0 ∷ 0 ∷ 0 ∷ [] } ≡ send_left words rx tx
-  send_refused_as n e =
-      told (send_left words rx tx) (suc n) words rx (0 ∷ 0 ∷ 0 ∷ []) (send_refusal ∙ e) (one_more refl) (link_stays.send words rx tx)
+  pub send_refused_as : (r : Refusal) → number r ≡ both_refused words (length rx) (length tx) →
+      record { refusal = number r; state = words; places = rx; out = 0 ∷ 0 ∷ 0 ∷ [] } ≡ send_left words rx tx
+  send_refused_as r e =
+      told (send_left words rx tx) (number r) words rx (0 ∷ 0 ∷ 0 ∷ []) (send_refusal ∙ sym e) (not_none r) (link_stays.send words rx tx)
 
   pub send_accepted : is_link words ≡ true → both_refusal (length rx) (length tx) (link_of words) ≡ 0 →
       (sent : Sending) → sent ≡ sending (length rx) tx (link_of words) →
@@ -198,8 +197,8 @@ module _ (words rx tx time : List ℕ) (kind value : ℕ) where
       ∙ ap (λ (x : List ℕ). record { refusal = left.refusal; state = left.state; rx = left.rx; time = x; out = 0 ∷ 0 ∷ [] }) (sym clock)
       ∙ ap (λ (x : List ℕ). record { refusal = left.refusal; state = left.state; rx = left.rx; time = left.time; out = x }) (sym out)
 
-  pub receive_refused_as : (n : ℕ) → receive_refused words (length rx) (length tx) time token ≡ suc n →
-      record { refusal = suc n; state = words; rx = rx; time = time; out = 0 ∷ 0 ∷ [] }
+  pub receive_refused_as : (r : Refusal) → number r ≡ receive_refused words (length rx) (length tx) time token →
+      record { refusal = number r; state = words; rx = rx; time = time; out = 0 ∷ 0 ∷ [] }
       ≡ receive_left words rx tx time kind value
-  receive_refused_as n e =
-      told_receive (suc n) (receive_refusal_lem ∙ e) (one_more refl) (link_stays.receive words rx tx time kind value)
+  receive_refused_as r e =
+      told_receive (number r) (receive_refusal_lem ∙ sym e) (not_none r) (link_stays.receive words rx tx time kind value)

@@ -10,7 +10,9 @@ use lib.Dec.{eqb, ltb}
 use borrow.Author.Tests.{ne_eqb, eqb-true, eqb-false, ltb-false}
 use Rattle.vocabulary.specs.Choice.{pick}
 use Rattle.vocabulary.specs.Refusals.{CHAR, number}
+use Rattle.vocabulary.specs.declared.Refusal.{Refusal}
 use Rattle.vocabulary.specs.declared.Token.{Token}
+use Rattle.vocabulary.proofs.RefusalLaws.{not_none}
 use Rattle.words.specs.Arguments.{no_token}
 use Rattle.store.specs.Ring.{bad_store}
 use Rattle.store.proofs.OrLaws.{or_left, or_right}
@@ -98,8 +100,9 @@ fault_refusal words rx tx kind = by (is_link words) refl (no_fault kind) refl
         ∙ no_fault_is_char e kind (other 5 refl) (other 6 refl) (other 7 refl))
     by false p none q = rw p
 
-pub fault_refused_as : (words rx tx : List ℕ) (kind n : ℕ) → fault_refused words (length rx) (length tx) kind ≡ suc n →
-    record { refusal = suc n; state = words; places = rx; out = 0 ∷ [] } ≡ fault_left words rx tx kind
-fault_refused_as words rx tx kind n e =
-    told (fault_left words rx tx kind) (suc n) words rx (0 ∷ []) (fault_refusal words rx tx kind ∙ e) (λ z. omega (arith, z))
+pub fault_refused_as : (words rx tx : List ℕ) (kind : ℕ) (r : Refusal) →
+    number r ≡ fault_refused words (length rx) (length tx) kind →
+    record { refusal = number r; state = words; places = rx; out = 0 ∷ [] } ≡ fault_left words rx tx kind
+fault_refused_as words rx tx kind r e =
+    told (fault_left words rx tx kind) (number r) words rx (0 ∷ []) (fault_refusal words rx tx kind ∙ sym e) (not_none r)
     (link_stays.fault words rx tx kind)

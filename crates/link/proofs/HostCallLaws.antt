@@ -10,6 +10,8 @@ use lib.Dec.{eqb}
 use borrow.Author.Tests.{eq-eqb, eqb-true}
 use Rattle.vocabulary.specs.Choice.{pick}
 use Rattle.vocabulary.specs.Refusals.{STATE, number}
+use Rattle.vocabulary.specs.declared.Refusal.{Refusal}
+use Rattle.vocabulary.proofs.RefusalLaws.{not_none}
 use Rattle.words.specs.Words.{Left, Stays, narrow}
 use Rattle.words.specs.Arguments.{fitted}
 use Rattle.link.specs.Hosts.{puts, puts_places, put_discarded, put_stored, takes, taken_n_char, offers}
@@ -83,11 +85,11 @@ module _ (words tx : List ℕ) (n : ℕ) where
       (pick zero (puts_places tx l (fitted n)) tx))
       (no_link words tx (0 ∷ [])) refl refl refl)
 
-  pub put_refused_as : (k : ℕ) → put_refused words (length tx) (fitted n) ≡ suc k →
-      record { refusal = suc k; state = words; places = tx; out = 0 ∷ [] } ≡ put_left words tx n
-  put_refused_as k e =
-      ap (λ (m : ℕ). record { refusal = m; state = words; places = tx; out = 0 ∷ [] }) (sym e)
-      ∙ sym (put_refused_lem (λ z. omega (arith, sym e ∙ z)))
+  pub put_refused_as : (r : Refusal) → number r ≡ put_refused words (length tx) (fitted n) →
+      record { refusal = number r; state = words; places = tx; out = 0 ∷ [] } ≡ put_left words tx n
+  put_refused_as r e =
+      ap (λ (m : ℕ). record { refusal = m; state = words; places = tx; out = 0 ∷ [] }) e
+      ∙ sym (put_refused_lem (λ z. not_none r (e ∙ z)))
 
 module _ (words rx : List ℕ) where
   pub take_accepted_lem : is_link words ≡ true → take_refusal (length rx) (link_of words) ≡ 0 →
@@ -112,11 +114,11 @@ module _ (words rx : List ℕ) where
       (calls.take_refused (link_of words) (take_refusal (length rx) (link_of words)))))
       _ refl refl refl)
 
-  pub take_refused_as : (k : ℕ) → take_refused words (length rx) ≡ suc k →
-      record { refusal = suc k; state = words; out = 0 ∷ 0 ∷ [] } ≡ take_left words rx
-  take_refused_as k e =
-      ap (λ (m : ℕ). record { refusal = m; state = words; out = 0 ∷ 0 ∷ [] }) (sym e)
-      ∙ sym (take_refused_lem (λ z. omega (arith, sym e ∙ z)))
+  pub take_refused_as : (r : Refusal) → number r ≡ take_refused words (length rx) →
+      record { refusal = number r; state = words; out = 0 ∷ 0 ∷ [] } ≡ take_left words rx
+  take_refused_as r e =
+      ap (λ (m : ℕ). record { refusal = m; state = words; out = 0 ∷ 0 ∷ [] }) e
+      ∙ sym (take_refused_lem (λ z. not_none r (e ∙ z)))
 
 module _ (words : List ℕ) (code : ℕ) where
   pub offer_accepted_lem : is_link words ≡ true → offer_refusal (link_of words) ≡ 0 →
@@ -135,8 +137,8 @@ module _ (words : List ℕ) (code : ℕ) where
       (pick zero (offer_accepted (link_of words) code) (refused_with (link_of words) (offer_refusal (link_of words)))))
       _ refl refl refl)
 
-  pub offer_refused_as : (k : ℕ) → offer_refused words ≡ suc k →
-      record { refusal = suc k; state = words; out = 0 ∷ [] } ≡ offer_left words code
-  offer_refused_as k e =
-      ap (λ (m : ℕ). record { refusal = m; state = words; out = 0 ∷ [] }) (sym e)
-      ∙ sym (offer_refused_lem (λ z. omega (arith, sym e ∙ z)))
+  pub offer_refused_as : (r : Refusal) → number r ≡ offer_refused words →
+      record { refusal = number r; state = words; out = 0 ∷ [] } ≡ offer_left words code
+  offer_refused_as r e =
+      ap (λ (m : ℕ). record { refusal = m; state = words; out = 0 ∷ [] }) e
+      ∙ sym (offer_refused_lem (λ z. not_none r (e ∙ z)))

@@ -1,5 +1,6 @@
 pub mod TableLaws
 pub mod TestLaws
+pub mod TestedLaws
 pub mod FieldLaws
 pub mod RecordLaws
 pub mod FaultLaws

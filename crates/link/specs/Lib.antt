@@ -12,4 +12,5 @@ pub mod Refusals
 pub mod Calls
 pub mod LinkWords
 pub mod LinkCalls
+pub mod Answers
 pub mod InPlace

@@ -9,7 +9,7 @@ use Rattle.words.specs.Words.{Left, Stays, truth_word, truth, narrow}
 use Rattle.words.specs.Arguments.{fitted, no_token, token_of}
 use Rattle.time.specs.Time.{fresh_time}
 use Rattle.link.specs.Ends.{End}
-use Rattle.link.specs.Refusals.{both_refusal, receive_refusal, put_refusal, take_refusal, offer_refusal}
+use Rattle.link.specs.Refusals.{bad_record, both_refusal, receive_refusal, put_refusal, take_refusal, offer_refusal}
 use Rattle.link.specs.Send.{sent_kind, sent_value}
 use Rattle.link.specs.Calls.{Outcome, both, tick_outcome, fault_outcome, control_outcome, reset_outcome, send_outcome}
 use Rattle.link.specs.Calls.{receive_outcome, put_answer, put_places_after, take_answer, offer_answer}
@@ -19,7 +19,10 @@ use Rattle.link.specs.declared.FaultKind.TheVariants.{ParityFault, EscapeFault, 
 use Rattle.link.specs.Records.{Answer, Dispatch, Receipt, Taken}
 use Rattle.link.specs.LinkWords.{link_words, link_of, is_link, time_words, time_of, is_time}
 
--- What each call refuses: words that are no end's as STATE, and of an end what its own tests say.
+-- What each call refuses: words that are no end's as STATE, and of an end what its own tests say; the record's come first.
+abbrev pub record_refused : List ℕ → ℕ
+record_refused words = pick (is_link words) (pick (bad_record (link_of words)) (number STATE) 0) (number STATE)
+
 abbrev pub both_refused : List ℕ → ℕ → ℕ → ℕ
 both_refused words rx tx = pick (is_link words) (both_refusal rx tx (link_of words)) (number STATE)
 

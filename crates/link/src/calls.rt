@@ -1,113 +1,93 @@
-// The calls on a link end. Each takes any words, places and numbers: what is bad is refused, and then nothing changes but
-// `out`, which gets zeros.
-ghost use Rattle.std.specs.Prelude.{◌≡◌, ◌<◌};
+// The calls on a link end. Each takes any words, places and numbers: what is bad is refused, and then nothing changes.
+ghost use Rattle.std.specs.Prelude.{◌≡◌, ◌<◌, [], ◌∷◌};
+ghost use Rattle.vocabulary.specs.Refusals.{refusal_in, answer_in};
 ghost use Rattle.words.specs.Words.{word_at};
 ghost use Rattle.time.specs.Time.{fresh_time};
 ghost use Rattle.link.specs.Ends.{fresh_link};
 ghost use Rattle.link.specs.LinkWords.{link_words, time_words, time_of};
 ghost use Rattle.link.specs.LinkCalls.{tick_left, reset_left, fault_left, controls_of, control_left, send_left};
-ghost use Rattle.link.specs.LinkCalls.{fault_of, receive_left, put_left, take_left, offer_left};
+ghost use Rattle.link.specs.LinkCalls.{receive_left, put_left, take_left, offer_left};
+ghost use Rattle.link.specs.Answers.{sent_words, nothing_sent, received_words, nothing_received};
 
 use crate::fields::{TIME_WORDS, TimeWords, WORDS, Words};
-use crate::{Event, FaultKind, LinkState, fields, hosts, received, recovery, refusals, send};
+use crate::{Event, FaultKind, hosts, received, recovery, refusals, send, tested};
 use time::Time;
-use vocabulary::{CHAR, EMPTY, FULL, NOTRUN, STATE, STORE};
+use vocabulary::{Refusal, Token, refuse};
+
+// What a send comes to: how many of the host's N-Chars were discarded, and the token that is due.
+#[derive(Clone, Copy, Debug, PartialEq, Eq)]
+pub struct Sent {
+    pub discarded: u32,
+    pub token: Option<Token>,
+}
+
+impl From<Sent> for [u32; 3] {
+    ghost from_gives = { λ sent words. words ≡ sent_words sent };
+
+    fn from(sent: Sent) -> [u32; 3] {
+        let kind = send::sent_kind(sent.token);
+        let value = send::sent_value(sent.token);
+        [sent.discarded, u32::from(kind), u32::from(value)]
+    }
+}
+
+// What a received token comes to: how many of the host's N-Chars were discarded, and whether there is a tick out.
+#[derive(Clone, Copy, Debug, PartialEq, Eq)]
+pub struct Received {
+    pub discarded: u32,
+    pub tick: bool,
+}
+
+impl From<Received> for [u32; 2] {
+    ghost from_gives = { λ received words. words ≡ received_words received };
+
+    fn from(received: Received) -> [u32; 2] {
+        [received.discarded, u32::from(received.tick)]
+    }
+}
 
 // A link end as it is made: in ErrorReset, controls off, stores empty.
+#[tactic(auto, unfolding(crate::specs::LinkWords::link_words, crate::specs::Ends::fresh_link, crate::specs::Ends::no_credit, store::specs::Changes::fresh_store))]
 pub fn fresh(words: &mut Words)
     ensures { words.new ≡ link_words fresh_link }
 {
     *words = [0; WORDS];
 }
 
+#[tactic(auto, unfolding(time::specs::Time::fresh_time))]
 pub fn fresh_time(time: &mut TimeWords)
     ensures { time.new ≡ time_words fresh_time }
 {
     *time = [0; TIME_WORDS];
 }
 
-// One tick of the clock: `out` gets how many of the host's N-Chars were discarded.
-pub fn tick(words: &mut Words, rx: &mut [u16], tx: &[u16], out: &mut [u32; 1]) -> u32
-    ensures { record { refusal = result; state = words.new; places = rx.new; out = out.new }
+// One tick of the clock: how many of the host's N-Chars were discarded.
+pub fn tick(words: &mut Words, rx: &mut [u16], tx: &[u16]) -> Result<u32, Refusal>
+    ensures { record { refusal = refusal_in result; state = words.new; places = rx.new; out = answer_in 0 result ∷ [] }
         ≡ tick_left words.old rx.old tx.now }
 {
-    *out = [0];
-    if refusals::no_link(words) {
-        return STATE as u32;
-    }
-    if refusals::bad_record(words) {
-        return STATE as u32;
-    }
-    if refusals::bad_sizes(rx.len(), tx.len()) {
-        return STORE as u32;
-    }
-    if refusals::bad_stores(words, rx.len(), tx.len()) {
-        return STATE as u32;
-    }
+    tested::both(words, rx.len(), tx.len())?;
     received::count(words);
-    let discarded = recovery::settle(Event::Quiet, words, rx, tx);
-    *out = [discarded];
-    0
+    Ok(recovery::settle(Event::Quiet, words, rx, tx))
 }
 
 // To ErrorReset from any state, with both stores emptied.
-pub fn reset(words: &mut Words, rx: &mut [u16], tx: &[u16], out: &mut [u32; 1]) -> u32
-    ensures { record { refusal = result; state = words.new; places = rx.new; out = out.new }
+pub fn reset(words: &mut Words, rx: &mut [u16], tx: &[u16]) -> Result<u32, Refusal>
+    ensures { record { refusal = refusal_in result; state = words.new; places = rx.new; out = answer_in 0 result ∷ [] }
         ≡ reset_left words.old rx.old tx.now }
 {
-    *out = [0];
-    if refusals::no_link(words) {
-        return STATE as u32;
-    }
-    if refusals::bad_record(words) {
-        return STATE as u32;
-    }
-    if refusals::bad_sizes(rx.len(), tx.len()) {
-        return STORE as u32;
-    }
-    if refusals::bad_stores(words, rx.len(), tx.len()) {
-        return STATE as u32;
-    }
-    let discarded = recovery::reset_all(words, rx);
-    *out = [discarded];
-    0
+    tested::both(words, rx.len(), tx.len())?;
+    Ok(recovery::reset_all(words, rx))
 }
 
-fn fault_of(kind: u32) -> FaultKind
-    ensures { result ≡ fault_of kind }
-{
-    match kind {
-        5 => FaultKind::ParityFault,
-        6 => FaultKind::EscapeFault,
-        _ => FaultKind::DisconnectFault,
-    }
-}
-
-// A fault by the number of the decoder's report: `fault(&mut words, &mut rx, &tx, 5, &mut out)` is a parity error.
-pub fn fault(words: &mut Words, rx: &mut [u16], tx: &[u16], kind: u32, out: &mut [u32; 1]) -> u32
-    ensures { record { refusal = result; state = words.new; places = rx.new; out = out.new }
+// A fault by the number of the decoder's report: `fault(&mut words, &mut rx, &tx, 5)` is a parity error.
+pub fn fault(words: &mut Words, rx: &mut [u16], tx: &[u16], kind: u32) -> Result<u32, Refusal>
+    ensures { record { refusal = refusal_in result; state = words.new; places = rx.new; out = answer_in 0 result ∷ [] }
         ≡ fault_left words.old rx.old tx.now kind }
 {
-    *out = [0];
-    if refusals::no_link(words) {
-        return STATE as u32;
-    }
-    if refusals::bad_record(words) {
-        return STATE as u32;
-    }
-    if refusals::bad_sizes(rx.len(), tx.len()) {
-        return STORE as u32;
-    }
-    if refusals::bad_stores(words, rx.len(), tx.len()) {
-        return STATE as u32;
-    }
-    if refusals::no_fault(kind) {
-        return CHAR as u32;
-    }
-    let event = received::fault_event(words, fault_of(kind));
-    let discarded = recovery::settle(event, words, rx, tx);
-    *out = [discarded];
-    0
+    tested::both(words, rx.len(), tx.len())?;
+    let event = received::fault_event(words, FaultKind::try_from(kind)?);
+    Ok(recovery::settle(event, words, rx, tx))
 }
 
 // The three controls, all at once; any number but 0 is on.
@@ -118,57 +98,28 @@ pub fn control(
     disabled: u32,
     start: u32,
     auto: u32,
-    out: &mut [u32; 1],
-) -> u32
-    ensures { record { refusal = result; state = words.new; places = rx.new; out = out.new }
+) -> Result<u32, Refusal>
+    ensures { record { refusal = refusal_in result; state = words.new; places = rx.new; out = answer_in 0 result ∷ [] }
         ≡ control_left words.old rx.old tx.now (controls_of disabled start auto) }
 {
-    *out = [0];
-    if refusals::no_link(words) {
-        return STATE as u32;
-    }
-    if refusals::bad_record(words) {
-        return STATE as u32;
-    }
-    if refusals::bad_sizes(rx.len(), tx.len()) {
-        return STORE as u32;
-    }
-    if refusals::bad_stores(words, rx.len(), tx.len()) {
-        return STATE as u32;
-    }
+    tested::both(words, rx.len(), tx.len())?;
     hosts::set_controls(words, disabled, start, auto);
-    let discarded = recovery::settle(Event::Quiet, words, rx, tx);
-    *out = [discarded];
-    0
+    Ok(recovery::settle(Event::Quiet, words, rx, tx))
 }
 
-// The token that is due: `out` gets the discarded, the token's number, 0 for none, and its value.
-pub fn send(words: &mut Words, rx: &mut [u16], tx: &[u16], out: &mut [u32; 3]) -> u32
-    ensures { record { refusal = result; state = words.new; places = rx.new; out = out.new }
+// The token that is due.
+pub fn send(words: &mut Words, rx: &mut [u16], tx: &[u16]) -> Result<Sent, Refusal>
+    ensures { record { refusal = refusal_in result; state = words.new; places = rx.new; out = sent_words (answer_in nothing_sent result) }
         ≡ send_left words.old rx.old tx.now }
 {
-    *out = [0, 0, 0];
-    if refusals::no_link(words) {
-        return STATE as u32;
-    }
-    if refusals::bad_record(words) {
-        return STATE as u32;
-    }
-    if refusals::bad_sizes(rx.len(), tx.len()) {
-        return STORE as u32;
-    }
-    if refusals::bad_stores(words, rx.len(), tx.len()) {
-        return STATE as u32;
-    }
-    let sent = send::choose(words, rx.len(), tx);
-    send::book(words, tx, sent);
+    tested::both(words, rx.len(), tx.len())?;
+    let token = send::choose(words, rx.len(), tx);
+    send::book(words, tx, token);
     let discarded = recovery::settle(Event::Quiet, words, rx, tx);
-    let kind = send::sent_kind(sent) as u32;
-    let value = send::sent_value(sent) as u32;
-    *out = [discarded, kind, value];
-    0
+    Ok(Sent { discarded, token })
 }
 
+#[tactic(auto, using(words::proofs::NumberLaws::byte_back), unfolding(crate::specs::LinkWords::time_of))]
 fn time_in(time: &TimeWords) -> Time
     ensures { word_at time.now 0 < 256 → result ≡ time_of time.now }
 {
@@ -180,12 +131,10 @@ fn time_in(time: &TimeWords) -> Time
 fn set_time(time: &mut TimeWords, t: Time)
     ensures { time.new ≡ time_words t }
 {
-    let count = t.count as u32;
-    let ticked = words::truth_word(t.ticked);
-    *time = [count, ticked];
+    *time = [u32::from(t.count), u32::from(t.ticked)];
 }
 
-// The token with this number and value came over the wire: `out` gets the discarded, and 1 for a tick out.
+// The token with this number and value came over the wire.
 pub fn receive(
     words: &mut Words,
     rx: &mut [u16],
@@ -193,112 +142,44 @@ pub fn receive(
     time: &mut TimeWords,
     kind: u32,
     value: u32,
-    out: &mut [u32; 2],
-) -> u32
-    ensures { record { refusal = result; state = words.new; rx = rx.new; time = time.new; out = out.new }
+) -> Result<Received, Refusal>
+    ensures { record { refusal = refusal_in result; state = words.new; rx = rx.new; time = time.new; out = received_words (answer_in nothing_received result) }
         ≡ receive_left words.old rx.old tx.now time.old kind value }
 {
-    *out = [0, 0];
-    if refusals::no_link(words) {
-        return STATE as u32;
-    }
-    if refusals::bad_record(words) {
-        return STATE as u32;
-    }
-    if refusals::bad_time(time) {
-        return STATE as u32;
-    }
-    if refusals::bad_sizes(rx.len(), tx.len()) {
-        return STORE as u32;
-    }
-    if refusals::bad_stores(words, rx.len(), tx.len()) {
-        return STATE as u32;
-    }
-    let token = words::token_of(kind, value);
-    if vocabulary::bad_char(token) {
-        return CHAR as u32;
-    }
+    refuse(refusals::bad_time(time), Refusal::State)?;
+    tested::both(words, rx.len(), tx.len())?;
+    let token = words::token_of(kind, value)?;
     let heard = received::token(words, rx, time_in(time), token);
-    let event = heard.event;
-    let after = heard.time;
-    set_time(time, after);
-    let discarded = recovery::settle(event, words, rx, tx);
-    let tick = words::truth_word(heard.tick);
-    *out = [discarded, tick];
-    0
+    set_time(time, heard.time);
+    let discarded = recovery::settle(heard.event, words, rx, tx);
+    Ok(Received { discarded, tick: heard.tick })
 }
 
-// The host puts an N-Char to be sent: `out` gets how many were discarded.
-pub fn put(words: &mut Words, tx: &mut [u16], nchar: u32, out: &mut [u32; 1]) -> u32
-    ensures { record { refusal = result; state = words.new; places = tx.new; out = out.new }
+// The host puts an N-Char to be sent: how many were discarded.
+pub fn put(words: &mut Words, tx: &mut [u16], nchar: u32) -> Result<u32, Refusal>
+    ensures { record { refusal = refusal_in result; state = words.new; places = tx.new; out = answer_in 0 result ∷ [] }
         ≡ put_left words.old tx.old nchar }
 {
-    *out = [0];
     let n = words::fitted(nchar);
-    if refusals::no_link(words) {
-        return STATE as u32;
-    }
-    if refusals::bad_record(words) {
-        return STATE as u32;
-    }
-    if refusals::bad_tx_size(tx.len()) {
-        return STORE as u32;
-    }
-    if refusals::bad_transmit(words, tx.len()) {
-        return STATE as u32;
-    }
-    if vocabulary::above_eep(n) {
-        return CHAR as u32;
-    }
-    if refusals::no_place(words, tx.len()) {
-        return FULL as u32;
-    }
-    let discarded = hosts::put_one(words, tx, n);
-    *out = [discarded];
-    0
+    tested::put(words, tx.len(), n)?;
+    Ok(hosts::put_one(words, tx, n))
 }
 
-// The host takes an N-Char that was received: `out` gets the discarded, always 0, and the N-Char.
-pub fn take(words: &mut Words, rx: &[u16], out: &mut [u32; 2]) -> u32
-    ensures { record { refusal = result; state = words.new; out = out.new }
+// The host takes an N-Char that was received.
+pub fn take(words: &mut Words, rx: &[u16]) -> Result<u16, Refusal>
+    ensures { record { refusal = refusal_in result; state = words.new; out = 0 ∷ answer_in 0 result ∷ [] }
         ≡ take_left words.old rx.now }
 {
-    *out = [0, 0];
-    if refusals::no_link(words) {
-        return STATE as u32;
-    }
-    if refusals::bad_record(words) {
-        return STATE as u32;
-    }
-    if refusals::bad_rx_size(rx.len()) {
-        return STORE as u32;
-    }
-    if refusals::bad_receive(words, rx.len()) {
-        return STATE as u32;
-    }
-    if refusals::is_empty(words) {
-        return EMPTY as u32;
-    }
-    let nchar = hosts::take_one(words, rx) as u32;
-    *out = [0, nchar];
-    0
+    tested::take(words, rx.len())?;
+    Ok(hosts::take_one(words, rx))
 }
 
-// The host offers a Time-Code, which waits until the next send in Run: `out` gets the discarded, always 0.
-pub fn offer(words: &mut Words, code: u8, out: &mut [u32; 1]) -> u32
-    ensures { record { refusal = result; state = words.new; out = out.new }
+// The host offers a Time-Code, which waits until the next send in Run.
+pub fn offer(words: &mut Words, code: u8) -> Result<(), Refusal>
+    ensures { record { refusal = refusal_in result; state = words.new; out = 0 ∷ [] }
         ≡ offer_left words.old code }
 {
-    *out = [0];
-    if refusals::no_link(words) {
-        return STATE as u32;
-    }
-    if refusals::bad_record(words) {
-        return STATE as u32;
-    }
-    if !fields::is_in(words, LinkState::Run) {
-        return NOTRUN as u32;
-    }
+    tested::offer(words)?;
     hosts::offer_code(words, code);
-    0
+    Ok(())
 }

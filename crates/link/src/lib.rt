@@ -20,6 +20,7 @@ mod received;
 mod recovery;
 mod refusals;
 mod send;
+mod tested;
 
 #[derive(Clone, Copy, Debug, PartialEq, Eq)]
 pub enum LinkState {
