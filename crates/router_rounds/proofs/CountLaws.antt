@@ -1,5 +1,6 @@
 -- What is done for one port adds at most one to each count, so a part adds at most eleven and a round at most thirty-three.
 -- Assumes nothing.
+use Rattle.std.specs.Prelude.{Option, None, Some}
 use mathlib.Core.Path.{◌≡◌, refl, ◌∙◌}
 use mathlib.Core.Bool.{Bool, true, false}
 use mathlib.Core.List.{List}
@@ -15,9 +16,8 @@ use Rattle.router_ports.specs.declared.Mode.{Mode}
 use Rattle.router_ports.specs.declared.Mode.TheVariants.{Idle, Waiting, Routed, Spilling}
 use Rattle.router_rounds.specs.Acts.{Acts, Tally, changed_to, count_moved, count_error, count_round}
 use Rattle.router_rounds.specs.Addresses.{follows, reads, if_idle, addresses, part1}
-use Rattle.router_rounds.specs.Grants.{Choice, nobody, input, is_free, chosen, granted, grants_to, grants, part2}
+use Rattle.router_rounds.specs.Grants.{is_free, chosen, granted, grants_to, grants, part2}
 use Rattle.router_rounds.specs.Moves.{moves, moves_one, spills_one, if_sending, sends, part3}
-use Rattle.router_rounds.specs.Rounds.{round}
 
 -- `Adds k t u`: from t to u each count has grown by at most k, and no round was counted
 pub record Adds {X : Type 0} (k : ℕ) (t u : Tally X) : Type 0 where
@@ -102,9 +102,9 @@ module _ {X : Type 0} (M : Acts X) where
   unfolding grants granted
   grants_add t o = either (is_free (M.output t.now o).owner) t _ t (go (chosen M t.now o)) (none t)
     where
-      go : (c : Choice) → Adds 1 t (grants_to M t o c)
-      go nobody = none t
-      go (input i) = only_changed t _
+      go : (c : Option ℕ) → Adds 1 t (grants_to M t o c)
+      go None = none t
+      go (Some i) = only_changed t _
 
   pub sends_add : (t : Tally X) (i : ℕ) → Adds 1 t (sends M t i)
   unfolding sends moves_one moves spills_one
@@ -131,10 +131,11 @@ module _ {X : Type 0} (M : Acts X) where
     unfolding part3
     part3_adds = each_adds (sends M) sends_add 0 11 t
 
-  pub round_adds : (table : List ℕ) (t : Tally X) → Adds 33 (count_round t) (round M table t)
-  unfolding round
-  round_adds table t =
-      adds_trans 22 11 (count_round t) (part2 M (part1 M table (count_round t))) (round M table t)
-      (adds_trans 11 11 (count_round t) (part1 M table (count_round t)) (part2 M (part1 M table (count_round t)))
-      (part1_adds table (count_round t)) (part2_adds table (part1 M table (count_round t))))
-      (part3_adds table (part2 M (part1 M table (count_round t))))
+  pub first_parts_add : (table : List ℕ) (t : Tally X) → Adds 22 t (part2 M (part1 M table t))
+  first_parts_add table t =
+      adds_trans 11 11 t (part1 M table t) (part2 M (part1 M table t)) (part1_adds table t) (part2_adds table (part1 M table t))
+
+  pub parts_add : (table : List ℕ) (t : Tally X) → Adds 33 t (part3 M (part2 M (part1 M table t)))
+  parts_add table t =
+      adds_trans 22 11 t (part2 M (part1 M table t)) (part3 M (part2 M (part1 M table t))) (first_parts_add table t)
+      (part3_adds table (part2 M (part1 M table t)))

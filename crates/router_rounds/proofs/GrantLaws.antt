@@ -1,5 +1,6 @@
 -- The candidates for an output, one by one: the k-th is the input k + 1 behind the last granted, at high priority below 11.
 -- Assumes nothing.
+use Rattle.std.specs.Prelude.{Option, None, Some}
 use mathlib.Core.Path.{◌≡◌, refl, sym, ap, ◌∙◌}
 use mathlib.Core.Bool.{Bool, true, false, false≢true}
 use mathlib.Core.List.{List, [], ◌∷◌, ◌++◌}
@@ -21,7 +22,7 @@ use Rattle.router_ports.specs.declared.Mode.TheVariants.{Idle, Waiting, Routed, 
 use Rattle.router_ports.proofs.EachLaws.{none_at}
 use Rattle.router_ports.specs.RouterWords.{router_of}
 use Rattle.router_rounds.specs.Acts.{Acts, Tally}
-use Rattle.router_rounds.specs.Grants.{Candidate, Choice, nobody, input, cyclic, candidates, first_that}
+use Rattle.router_rounds.specs.Grants.{Candidate, cyclic, candidates, first_that}
 use Rattle.router_rounds.specs.Grants.{is_free, waits_for, fits, grants_to, grants, part2}
 use Rattle.router_rounds.specs.Addresses.{reads, if_idle, addresses, part1}
 use Rattle.router_rounds.specs.InWords.{stirs}
@@ -87,10 +88,10 @@ unfolding candidates cyclic
 no_more last k h = drop_of_length-le (candidates last) h
 
 module _ (fits : Candidate → Bool) (last k : ℕ) where
-  abbrev left : ℕ → Choice
+  abbrev left : ℕ → Option ℕ
   left j = first_that fits (drop j (candidates last))
 
-  pub finds : k < 22 → fits (candidate last k) ≡ true → left k ≡ input ((last + (k + 1)) % 11)
+  pub finds : k < 22 → fits (candidate last k) ≡ true → left k ≡ Some ((last + (k + 1)) % 11)
   unfolding first_that
   finds h e = ap (first_that fits) (next_candidate last k h) ∙ rw e
 
@@ -98,7 +99,7 @@ module _ (fits : Candidate → Bool) (last k : ℕ) where
   unfolding first_that
   passes h e = ap (first_that fits) (next_candidate last k h) ∙ rw e
 
-  pub runs_out : 22 ≤ k → left k ≡ nobody
+  pub runs_out : 22 ≤ k → left k ≡ None
   unfolding first_that
   runs_out h = ap (first_that fits) (no_more last k h)
 
@@ -110,7 +111,7 @@ not_waiting o high none (Waiting w) e = absurd (false≢true (sym e))
 not_waiting o high none (Routed p) e = refl
 not_waiting o high none Spilling e = refl
 
-none_fits : (fit : Candidate → Bool) → ((c : Candidate) → fit c ≡ false) → (cs : List Candidate) → first_that fit cs ≡ nobody
+none_fits : (fit : Candidate → Bool) → ((c : Candidate) → fit c ≡ false) → (cs : List Candidate) → first_that fit cs ≡ None
 unfolding first_that
 none_fits fit none [] = refl
 none_fits fit none (c ∷ cs) = rw (none c, none_fits fit none cs)
@@ -128,7 +129,7 @@ module _ {X : Type 0} (M : Acts X) (t : Tally X)
   grants_nobody : (o : ℕ) → grants M t o ≡ t
   unfolding grants
   grants_nobody o =
-      ap (λ (c : Choice). pick (is_free (M.output t.now o).owner) (grants_to M t o c) t)
+      ap (λ (c : Option ℕ). pick (is_free (M.output t.now o).owner) (grants_to M t o c) t)
       (none_fits (fits M t.now o) (λ c. unwaited o c.high c.input)
       (candidates (M.output t.now o).last))
       ∙ go (is_free (M.output t.now o).owner)

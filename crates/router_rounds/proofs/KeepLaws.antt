@@ -1,6 +1,6 @@
 -- A property of the ports that each thing that can happen to them keeps is kept by a run of any number of rounds.
 -- Assumes nothing.
-use Rattle.std.specs.Prelude.{None, Some}
+use Rattle.std.specs.Prelude.{Option, None, Some}
 use mathlib.Core.Path.{◌≡◌, refl, sym, ap, ◌∙◌}
 use mathlib.Core.Bool.{Bool, true, false}
 use mathlib.Core.List.{List, [], ◌∷◌}
@@ -18,7 +18,7 @@ use Rattle.router_ports.specs.declared.Mode.{Mode}
 use Rattle.router_ports.specs.declared.Mode.TheVariants.{Idle, Waiting, Routed, Spilling}
 use Rattle.router_rounds.specs.Acts.{Acts, Tally, changed_to, count_moved, count_error, count_round}
 use Rattle.router_rounds.specs.Addresses.{waits, follows, reads, if_idle, addresses, part1}
-use Rattle.router_rounds.specs.Grants.{Candidate, Choice, nobody, input, is_free, waits_for, fits, first_that, candidates}
+use Rattle.router_rounds.specs.Grants.{Candidate, is_free, waits_for, fits, first_that, candidates}
 use Rattle.router_rounds.specs.Grants.{chosen, granted, grants_to, grants, part2}
 use Rattle.router_rounds.specs.Moves.{frees, carries, moves, moves_one, spills, spills_one, if_sending, sends, part3}
 use Rattle.router_rounds.specs.Rounds.{round, rounds}
@@ -70,13 +70,13 @@ pub record Fitting (fit : Candidate → Bool) (i : ℕ) : Type 0 where
   pub input : candidate.input ≡ i
   pub fits : fit candidate ≡ true
 
-pub first_fits : (fit : Candidate → Bool) (cs : List Candidate) (i : ℕ) → first_that fit cs ≡ input i → Fitting fit i
+pub first_fits : (fit : Candidate → Bool) (cs : List Candidate) (i : ℕ) → first_that fit cs ≡ Some i → Fitting fit i
 unfolding first_that
 first_fits fit [] i h = let z : ◌≡◌ {A = ℕ} 0 1 = cc in absurd (omega arith)
 first_fits fit (c ∷ cs) i h = go (fit c) refl (first_fits fit cs i) h
   where
-    go : (b : Bool) → fit c ≡ b → (first_that fit cs ≡ input i → Fitting fit i) →
-        pick b (input c.input) (first_that fit cs) ≡ input i → Fitting fit i
+    go : (b : Bool) → fit c ≡ b → (first_that fit cs ≡ Some i → Fitting fit i) →
+        pick b (Some c.input) (first_that fit cs) ≡ Some i → Fitting fit i
     go true e rest g = record { candidate = c; input = cc; fits = e }
     go false e rest g = rest g
 
@@ -107,9 +107,9 @@ module _ {X : Type 0} (M : Acts X) (P : X → Type 0) (keep : Keeps M P) (table 
   unfolding grants granted
   keeps_grants t o h p = go (is_free (M.output t.now o).owner) refl
     where
-      take : is_free (M.output t.now o).owner ≡ true → (c : Choice) → chosen M t.now o ≡ c → Q (grants_to M t o c)
-      take e nobody w = p
-      take e (input i) w =
+      take : is_free (M.output t.now o).owner ≡ true → (c : Option ℕ) → chosen M t.now o ≡ c → Q (grants_to M t o c)
+      take e None w = p
+      take e (Some i) w =
           let f = first_fits (fits M t.now o) (candidates (M.output t.now o).last) i w in
           let waiting : waits_for o f.candidate.high (M.mode t.now i) ≡ true =
           ap (λ (j : ℕ). waits_for o f.candidate.high (M.mode t.now j)) (sym f.input) ∙ f.fits in

@@ -1,3 +1,4 @@
+pub mod PartLaws
 pub mod CountLaws
 pub mod GrantLaws
 pub mod RunLaws

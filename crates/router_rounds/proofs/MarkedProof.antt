@@ -1,6 +1,6 @@
 -- A round whose mark is on changed something: less is left to do than before, so the state or the area is another.
 -- Assumes nothing.
-use Rattle.std.specs.Prelude.{None, Some}
+use Rattle.std.specs.Prelude.{Option, None, Some}
 use mathlib.Core.Path.{◌≡◌, refl, sym, ap, subst, ◌∙◌}
 use mathlib.Core.Bool.{Bool, true, false, false≢true}
 use mathlib.Core.List.{List}
@@ -21,7 +21,7 @@ use Rattle.router_ports.proofs.PortLaws.{ModeOk}
 use Rattle.router_ports.proofs.StateLaws.{Sound, mode_keeps_stores, drop_sound, append_sound}
 use Rattle.router_rounds.specs.Acts.{Tally, changed_to, count_moved, count_error, count_round}
 use Rattle.router_rounds.specs.Addresses.{waits, follows, reads, if_idle, addresses, part1}
-use Rattle.router_rounds.specs.Grants.{Choice, nobody, input, is_free, waits_for, fits, candidates, chosen, granted, grants_to, grants, part2}
+use Rattle.router_rounds.specs.Grants.{is_free, waits_for, fits, candidates, chosen, granted, grants_to, grants, part2}
 use Rattle.router_rounds.specs.Moves.{frees, carries, moves, moves_one, spills, spills_one, if_sending, sends, part3}
 use Rattle.router_rounds.specs.Rounds.{round}
 use Rattle.router_rounds.specs.Exact.{exact}
@@ -91,9 +91,9 @@ module _ (n : ℕ) (table : List ℕ) where
   unfolding grants granted
   grants_fall t o k sound = go (is_free (output_at t.now.router o).owner)
     where
-      take : (c : Choice) → chosen exact t.now o ≡ c → Falls t (grants_to exact t o c)
-      take nobody w = same refl
-      take (input i) w =
+      take : (c : Option ℕ) → chosen exact t.now o ≡ c → Falls t (grants_to exact t o c)
+      take None w = same refl
+      take (Some i) w =
           let x = t.now in
           let f = first_fits (fits exact x o) (candidates (output_at x.router o).last) i w in
           let waiting : waits_for o f.candidate.high (mode_at x.router i) ≡ true =

@@ -1,5 +1,6 @@
 -- A round whose mark is off changed nothing: what is done for a port leaves everything as it was, or sets the mark.
 -- Assumes nothing.
+use Rattle.std.specs.Prelude.{Option, None, Some}
 use mathlib.Core.Path.{◌≡◌, refl, sym, ap, ◌∙◌}
 use mathlib.Core.Bool.{Bool, true, false, false≢true}
 use mathlib.Core.List.{List}
@@ -14,7 +15,7 @@ use Rattle.router_ports.specs.declared.Mode.{Mode}
 use Rattle.router_ports.specs.declared.Mode.TheVariants.{Idle, Waiting, Routed, Spilling}
 use Rattle.router_rounds.specs.Acts.{Acts, Tally, changed_to, count_moved, count_error, count_round}
 use Rattle.router_rounds.specs.Addresses.{follows, reads, if_idle, addresses, part1}
-use Rattle.router_rounds.specs.Grants.{Choice, nobody, input, is_free, chosen, granted, grants_to, grants, part2}
+use Rattle.router_rounds.specs.Grants.{is_free, chosen, granted, grants_to, grants, part2}
 use Rattle.router_rounds.specs.Moves.{moves, moves_one, spills_one, if_sending, sends, part3}
 use Rattle.router_rounds.specs.Rounds.{round}
 use Rattle.router_rounds.specs.Still.{UnmarkedIsStill}
@@ -66,9 +67,9 @@ module _ {X : Type 0} (M : Acts X) where
   unfolding grants granted
   grants_step t o = either (is_free (M.output t.now o).owner) t _ t (go (chosen M t.now o)) (still refl)
     where
-      go : (c : Choice) → Step t (grants_to M t o c)
-      go nobody = still refl
-      go (input i) = marks t t _
+      go : (c : Option ℕ) → Step t (grants_to M t o c)
+      go None = still refl
+      go (Some i) = marks t t _
 
   sends_step : (t : Tally X) (i : ℕ) → Step t (sends M t i)
   unfolding sends moves_one moves spills_one

@@ -1,5 +1,6 @@
 -- Routers that show the same and stand alike after whatever happens go on alike through a run of any number of rounds.
 -- Assumes nothing.
+use Rattle.std.specs.Prelude.{Option, None, Some}
 use mathlib.Core.Path.{◌≡◌, refl, sym, ap, subst, ◌∙◌}
 use mathlib.Core.Bool.{Bool, true, false}
 use mathlib.Core.List.{List, [], ◌∷◌}
@@ -17,7 +18,7 @@ use Rattle.router_ports.specs.declared.Mode.TheVariants.{Idle, Waiting, Routed, 
 use Rattle.router_ports.specs.declared.Output.{Output}
 use Rattle.router_rounds.specs.Acts.{Acts, Tally, changed_to, count_moved, count_error, count_round}
 use Rattle.router_rounds.specs.Addresses.{follows, reads, if_idle, addresses, part1}
-use Rattle.router_rounds.specs.Grants.{Candidate, Choice, nobody, input, is_free, waits_for, fits, first_that, candidates}
+use Rattle.router_rounds.specs.Grants.{Candidate, is_free, waits_for, fits, first_that, candidates}
 use Rattle.router_rounds.specs.Grants.{chosen, granted, grants_to, grants, part2}
 use Rattle.router_rounds.specs.Moves.{moves, moves_one, spills, spills_one, if_sending, sends, part3}
 use Rattle.router_rounds.specs.Rounds.{round, rounds}
@@ -153,15 +154,15 @@ module _ {X Y : Type 0} (M : Acts X) (N : Acts Y) (R : X → Y → Type 0) (tabl
       same_test (Alike R c) _ _ (ap (λ (out : Output). is_free out.owner) (shows.output t.now u.now q.level.now o))
       _ _ _ _
       (λ free.
-      subst (λ (k : Choice). Alike R c (grants_to M t o (chosen M t.now o)) (grants_to N u o k))
+      subst (λ (k : Option ℕ). Alike R c (grants_to M t o (chosen M t.now o)) (grants_to N u o k))
       (same_choice t.now u.now q.level.now o)
       (take free (chosen M t.now o) refl))
       (λ owned. q)
     where
-      take : is_free (M.output t.now o).owner ≡ true → (k : Choice) → chosen M t.now o ≡ k →
+      take : is_free (M.output t.now o).owner ≡ true → (k : Option ℕ) → chosen M t.now o ≡ k →
           Alike R c (grants_to M t o k) (grants_to N u o k)
-      take free nobody w = q
-      take free (input i) w =
+      take free None w = q
+      take free (Some i) w =
           let f = first_fits (fits M t.now o) (candidates (M.output t.now o).last) i w in
           let waiting : waits_for o f.candidate.high (M.mode t.now i) ≡ true =
           ap (λ (j : ℕ). waits_for o f.candidate.high (M.mode t.now j)) (sym f.input) ∙ f.fits in

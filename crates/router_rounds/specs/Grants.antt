@@ -24,13 +24,9 @@ unfoldable pub candidates : ℕ → List Candidate
 candidates last = cyclic true last 1 11 ++ cyclic false last 1 11
 
 -- the first of a list that fits, if one does
-pub data Choice : Type 0 where
-  nobody : Choice
-  input : ℕ → Choice
-
-unfoldable pub first_that : (Candidate → Bool) → List Candidate → Choice
-first_that fits [] = nobody
-first_that fits (c ∷ cs) = pick (fits c) (input c.input) (first_that fits cs)
+unfoldable pub first_that : (Candidate → Bool) → List Candidate → Option ℕ
+first_that fits [] = None
+first_that fits (c ∷ cs) = pick (fits c) (Some c.input) (first_that fits cs)
 
 abbrev pub same : Bool → Bool → Bool
 same true b = b
@@ -52,16 +48,16 @@ module _ {X : Type 0} (M : Acts X) where
   fits x o c = waits_for o c.high (M.mode x c.input)
 
   -- the input that a free output takes
-  abbrev pub chosen : X → ℕ → Choice
+  abbrev pub chosen : X → ℕ → Option ℕ
   chosen x o = first_that (fits x o) (candidates (M.output x o).last)
 
   unfoldable pub granted : Tally X → ℕ → ℕ → Tally X
   granted t o i =
       changed_to t (M.set_mode (M.set_output t.now o (record { owner = Some i; last = i })) i (Routed o))
 
-  abbrev pub grants_to : Tally X → ℕ → Choice → Tally X
-  grants_to t o nobody = t
-  grants_to t o (input i) = granted t o i
+  abbrev pub grants_to : Tally X → ℕ → Option ℕ → Tally X
+  grants_to t o None = t
+  grants_to t o (Some i) = granted t o i
 
   unfoldable pub grants : Tally X → ℕ → Tally X
   grants t o =

@@ -1,57 +1,67 @@
 // What a run counts.
-ghost use Rattle.std.specs.Prelude.{◌≡◌, ◌<◌};
-ghost use Rattle.router_rounds.specs.Acts.{changed_to, count_moved, count_error, count_round};
-ghost use Rattle.router_rounds.specs.Rounds.{begun};
-ghost use Rattle.router_rounds.specs.InWords.{Words, tally};
+ghost use Rattle.std.specs.Prelude.{◌≡◌, ◌+◌, ◌<◌, ◌^◌};
+ghost use Rattle.router_rounds.specs.Acts.{count_round};
+ghost use Rattle.router_rounds.specs.InWords.{Words, tally, uncounted, counted, added};
 
 use crate::Totals;
 
-pub(crate) fn begin() -> Totals
-    ensures { (w : Words) → tally result w ≡ begun w }
-{
-    Totals {
-        rounds: 0,
-        moved: 0,
-        errors: 0,
-        changed: false,
+// What is done for one port: nothing, a change, or a change that is counted.
+#[derive(Clone, Copy, Drop)]
+pub(crate) enum Deed {
+    Nothing,
+    Change,
+    AddressError,
+    Move,
+}
+
+impl Totals {
+    pub(crate) fn none() -> Totals
+        ensures { result ≡ uncounted }
+    {
+        Totals {
+            rounds: 0,
+            moved: 0,
+            errors: 0,
+            changed: false,
+        }
     }
-}
 
-pub(crate) fn mark(c: Totals) -> Totals
-    ensures { (before w : Words) → tally result w ≡ changed_to (tally c before) w }
-{
-    let mut q = c;
-    q.changed = true;
-    q
-}
+    // A round begins: it is counted, and has changed nothing yet.
+    #[tactic(auto, unfolding(crate::specs::Acts::count_round))]
+    pub(crate) fn begin_round(&mut self)
+        requires { self.old.rounds < 2 ^ 32 }
+        ensures { (w : Words) → tally self.new w ≡ count_round (tally self.old w) }
+    {
+        self.rounds += 1;
+        self.changed = false;
+    }
 
-pub(crate) fn count_moved(c: Totals) -> Totals
-    requires { c.moved < 10000000 }
-    ensures { (w : Words) → tally result w ≡ count_moved (tally c w) }
-{
-    let mut q = c;
-    let n = c.moved;
-    q.moved = n + 1;
-    q
-}
+    pub(crate) fn count(&mut self, deed: Deed)
+        requires { (self.old.moved < 2 ^ 32) × (self.old.errors < 2 ^ 32) }
+        ensures { self.new ≡ counted self.old deed }
+    {
+        match deed {
+            Deed::Nothing => {}
+            Deed::Change => self.changed = true,
+            Deed::AddressError => {
+                self.errors += 1;
+                self.changed = true;
+            }
+            Deed::Move => {
+                self.moved += 1;
+                self.changed = true;
+            }
+        }
+    }
 
-pub(crate) fn count_error(c: Totals) -> Totals
-    requires { c.errors < 10000000 }
-    ensures { (w : Words) → tally result w ≡ count_error (tally c w) }
-{
-    let mut q = c;
-    let n = c.errors;
-    q.errors = n + 1;
-    q
-}
-
-pub(crate) fn count_round(c: Totals) -> Totals
-    requires { c.rounds < 10000000 }
-    ensures { (w : Words) → tally result w ≡ count_round (tally c w) }
-{
-    let mut q = c;
-    let n = c.rounds;
-    q.rounds = n + 1;
-    q.changed = false;
-    q
+    // What a part of a round has done is counted too.
+    pub(crate) fn add(&mut self, part: Totals)
+        requires { (self.old.rounds + part.rounds < 2 ^ 32) × (self.old.moved + part.moved < 2 ^ 32) × (self.old.errors + part.errors < 2 ^ 32) }
+        ensures { self.new ≡ added self.old part }
+    {
+        self.rounds += part.rounds;
+        self.moved += part.moved;
+        self.errors += part.errors;
+        self.changed |= part.changed;
+    }
 }

@@ -1,42 +1,30 @@
 // Part 2 of a round: free outputs take the inputs that wait for them.
-ghost use Rattle.std.specs.Prelude.{◌≡◌, not, List, ℕ, ◌<◌, ◌+◌, ◌%◌};
-ghost use Rattle.router_rounds.specs.Grants.{is_free, waits_for, granted, part2};
-ghost use Rattle.router_rounds.specs.InWords.{kept, in_words, tally};
-ghost use Rattle.router_ports.specs.Ports.{wants, mode_at, output_at};
+ghost use Rattle.std.specs.Prelude.{◌≡◌, List, ℕ, ◌<◌, ◌+◌, ◌%◌, []};
+ghost use Rattle.router_rounds.specs.Grants.{waits_for, candidates, fits, first_that, granted, grants, part2};
+ghost use Rattle.router_rounds.specs.InWords.{kept, in_words, tally, counted, added};
+ghost use Rattle.router_rounds.specs.declared.Totals.{Totals};
+ghost use Rattle.router_rounds.specs.declared.counts.Deed.TheVariants.{Change};
+ghost use Rattle.router_ports.specs.Ports.{wants, mode_at};
 ghost use Rattle.router_ports.specs.RouterWords.{router_of};
 
-use crate::{Totals, counts};
+use crate::Totals;
+use crate::counts::Deed;
 use router_ports::{Mode, Output, PORTS, STORES, Wanted, Words};
 
-fn wanted(ports: u16, o: usize) -> bool
+fn wanted(w: Wanted, o: usize) -> bool
     requires { o < 11 }
-    ensures { result ≡ wants ports o }
+    ensures { result ≡ wants w.ports o }
 {
-    (ports >> o) % 2 == 1
-}
-
-fn waits_so(w: Wanted, o: usize, high: bool) -> bool
-    requires { o < 11 }
-    ensures { result ≡ waits_for o high (Mode.Waiting w) }
-{
-    let ports = w.ports;
-    if w.high {
-        if high { wanted(ports, o) } else { false }
-    } else {
-        if high { false } else { wanted(ports, o) }
-    }
+    (w.ports >> o) % 2 == 1
 }
 
 fn waits_for(state: &Words, i: usize, o: usize, high: bool) -> bool
     requires { o < 11 }
     ensures { result ≡ waits_for o high (mode_at (router_of state.now) i) }
 {
-    let m = router_ports::mode_at(state, i);
-    match m {
-        Mode::Idle => false,
-        Mode::Waiting(w) => waits_so(w, o, high),
-        Mode::Routed(_) => false,
-        Mode::Spilling => false,
+    match router_ports::mode_at(state, i) {
+        Mode::Waiting(w) => w.high == high && wanted(w, o),
+        Mode::Idle | Mode::Routed(_) | Mode::Spilling => false,
     }
 }
 
@@ -47,26 +35,24 @@ fn in_turn(last: usize, on: usize) -> usize
     (last % PORTS + on) % PORTS
 }
 
-fn is_owned(state: &Words, o: usize) -> bool
-    ensures { result ≡ not (is_free (output_at (router_of state.now) o).owner) }
+// The input that a free output takes, of those in turn behind the last granted: candidates 0 to 10 are the inputs in
+// cyclic order at high priority, 11 to 21 the same at low.
+fn chosen(state: &Words, o: usize, last: usize) -> Option<usize>
+    requires { o < 11 }
+    ensures { result ≡ first_that (fits in_words (kept state.now []) o) (candidates last) }
 {
-    let out = router_ports::output_at(state, o);
-    let owner = out.owner;
-    match owner {
-        None => false,
-        Some(_) => true,
+    for k in 0..STORES {
+        let i = in_turn(last, k + 1);
+        if waits_for(state, i, o, k < PORTS) {
+            return Some(i);
+        }
     }
+    None
 }
 
-fn last_granted(state: &Words, o: usize) -> usize
-    ensures { result ≡ (output_at (router_of state.now) o).last }
-{
-    let out = router_ports::output_at(state, o);
-    out.last
-}
-
-fn grant(c: Totals, state: &mut Words, o: usize, i: usize) -> Totals
-    ensures { (area : List ℕ) → tally result (kept state.new area) ≡ granted in_words (tally c (kept state.old area)) o i }
+#[tactic(auto, unfolding(crate::specs::Grants::granted, crate::specs::Acts::changed_to))]
+fn grant(state: &mut Words, o: usize, i: usize)
+    ensures { (c : Totals) (area : List ℕ) → tally (counted c Change) (kept state.new area) ≡ granted in_words (tally c (kept state.old area)) o i }
 {
     router_ports::set_output(
         state,
@@ -77,32 +63,32 @@ fn grant(c: Totals, state: &mut Words, o: usize, i: usize) -> Totals
         },
     );
     router_ports::set_mode(state, i, Mode::Routed(o));
-    counts::mark(c)
 }
 
-// Candidates 0 to 10 are the inputs in cyclic order at high priority, 11 to 21 the same at low.
-pub(crate) fn grant_all(c: Totals, state: &mut Words) -> Totals
-    ensures { (area : List ℕ) → tally result (kept state.new area) ≡ part2 in_words (tally c (kept state.old area)) }
+#[tactic(auto, unfolding(crate::specs::Grants::grants))]
+fn grant_one(state: &mut Words, o: usize) -> Deed
+    requires { o < 11 }
+    ensures { (c : Totals) (area : List ℕ) → tally (counted c result) (kept state.new area) ≡ grants in_words (tally c (kept state.old area)) o }
 {
-    let mut q = c;
-    let mut o = 0;
-    'outputs: while o < PORTS {
-        if is_owned(state, o) {
-            o = o + 1;
-            continue 'outputs;
-        }
-        let last = last_granted(state, o);
-        let mut k = 0;
-        while k < STORES {
-            let i = in_turn(last, k + 1);
-            if waits_for(state, i, o, k < PORTS) {
-                q = grant(q, state, o, i);
-                o = o + 1;
-                continue 'outputs;
-            }
-            k = k + 1;
-        }
-        o = o + 1;
+    let output = router_ports::output_at(state, o);
+    if output.owner.is_some() {
+        return Deed::Nothing;
     }
-    q
+    match chosen(state, o, output.last) {
+        Some(i) => {
+            grant(state, o, i);
+            Deed::Change
+        }
+        None => Deed::Nothing,
+    }
+}
+
+pub(crate) fn grant_all(state: &mut Words) -> Totals
+    ensures { (c : Totals) (area : List ℕ) → tally (added c result) (kept state.new area) ≡ part2 in_words (tally c (kept state.old area)) }
+{
+    let mut done = Totals::none();
+    for o in 0..PORTS {
+        done.count(grant_one(state, o));
+    }
+    done
 }

@@ -4,8 +4,10 @@
 ghost use Rattle.std.specs.Prelude.{◌≡◌, ◌<◌, ◌^◌};
 ghost use Rattle.router_rounds.specs.Addresses.{part1};
 ghost use Rattle.router_rounds.specs.Grants.{part2};
-ghost use Rattle.router_rounds.specs.Rounds.{begun, round, rounds};
-ghost use Rattle.router_rounds.specs.InWords.{kept, in_words, tally};
+ghost use Rattle.router_rounds.specs.Moves.{part3};
+ghost use Rattle.router_rounds.specs.Rounds.{begun, rounds};
+ghost use Rattle.router_rounds.specs.InWords.{kept, in_words, tally, added};
+ghost use Rattle.router_rounds.specs.declared.Totals.{Totals};
 
 use router_ports::Words;
 use router_table::Table;
@@ -16,8 +18,8 @@ mod grants;
 mod moves;
 mod quiet;
 
-// The counts so far, and whether the present round has changed anything. As wide as a register, so that a count stays
-// in one.
+// What a part of a round, or a run, has counted, and whether it changed anything: a run's last round. As wide as a
+// register, so that a count stays in one.
 #[derive(Clone, Copy, Drop)]
 pub struct Totals {
     pub rounds: usize,
@@ -27,25 +29,23 @@ pub struct Totals {
 }
 
 // Parts 1 and 2. Where no input has an address to read and none waits, no port is looked at again.
-fn read_and_grant(c: Totals, state: &mut Words, area: &[u16], table: &Table) -> Totals
-    requires { c.errors < 9999000 }
-    ensures { tally result (kept state.new area.now) ≡ part2 in_words (part1 in_words table.now (tally c (kept state.old area.now))) }
+fn read_and_grant(state: &mut Words, area: &[u16], table: &Table) -> Totals
+    ensures { (c : Totals) → tally (added c result) (kept state.new area.now) ≡ part2 in_words (part1 in_words table.now (tally c (kept state.old area.now))) }
 {
-    if quiet::some_stir(state) {
-        let read = addresses::read_all(c, state, area, table);
-        grants::grant_all(read, state)
-    } else {
-        c
+    if !quiet::some_stir(state) {
+        return Totals::none();
     }
+    let mut done = addresses::read_all(state, area, table);
+    done.add(grants::grant_all(state));
+    done
 }
 
-fn one_round(c: Totals, state: &mut Words, area: &mut [u16], table: &Table) -> Totals
-    requires { (c.rounds < 70000) × (c.moved < 9000000) × (c.errors < 9000000) }
-    ensures { tally result (kept state.new area.new) ≡ round in_words table.now (tally c (kept state.old area.old)) }
+fn one_round(state: &mut Words, area: &mut [u16], table: &Table) -> Totals
+    ensures { (c : Totals) → tally (added c result) (kept state.new area.new) ≡ part3 in_words (part2 in_words (part1 in_words table.now (tally c (kept state.old area.old)))) }
 {
-    let begun = counts::count_round(c);
-    let granted = read_and_grant(begun, state, area, table);
-    moves::send_all(granted, state, area)
+    let mut done = read_and_grant(state, area, table);
+    done.add(moves::send_all(state, area));
+    done
 }
 
 // Rounds until one changes nothing, at most `limit`: `run_in_place(&mut state, &mut area, &table, 10)` where input 1 holds 3,
@@ -54,15 +54,13 @@ pub fn run_in_place(state: &mut Words, area: &mut [u16], table: &Table, limit: u
     ensures area_after { tally result (kept state.new area.new) ≡ rounds in_words table.now limit (begun (kept state.old area.old)) }
     ensures rounds_bound { (result.rounds < 2 ^ 32) × (result.moved < 2 ^ 32) × (result.errors < 2 ^ 32) }
 {
-    let mut q = counts::begin();
-    let mut left = limit;
-    while 0 < left {
-        q = one_round(q, state, area, table);
-        if q.changed {
-            left = left - 1;
-        } else {
-            return q;
+    let mut totals = Totals::none();
+    for _ in 0..limit {
+        totals.begin_round();
+        totals.add(one_round(state, area, table));
+        if !totals.changed {
+            return totals;
         }
     }
-    q
+    totals
 }

@@ -22,10 +22,8 @@ pub(crate) fn some_stir(state: &Words) -> bool
     ensures { result ≡ any (λ i. stirs (mode_at (router_of state.now) i) (empty (store_at (router_of state.now) i))) 0 11 }
 {
     let mut stir = false;
-    let mut i = 0;
-    while i < PORTS {
-        stir = stir | stirs(state, i);
-        i = i + 1;
+    for i in 0..PORTS {
+        stir |= stirs(state, i);
     }
     stir
 }
