@@ -2,30 +2,30 @@
 -- Assumes nothing.
 use mathlib.Core.Path.{sym, ◌∙◌}
 use Rattle.promises.specs.OneAnswer.{OneResult, OnePlaces}
-use Rattle.store.proofs.fresh.Kinds as fresh_kinds
-use Rattle.store.proofs.fresh.Reads as fresh_reads
-use Rattle.store.proofs.store_words.Kinds as store_words_kinds
-use Rattle.store.proofs.store_words.Reads as store_words_reads
-use Rattle.store.proofs.store_of.Kinds as store_of_kinds
-use Rattle.store.proofs.store_of.Reads as store_of_reads
-use Rattle.store.proofs.bad.Kinds as bad_kinds
-use Rattle.store.proofs.bad.Reads as bad_reads
-use Rattle.store.proofs.is_empty.Kinds as is_empty_kinds
-use Rattle.store.proofs.is_empty.Reads as is_empty_reads
-use Rattle.store.proofs.is_full.Kinds as is_full_kinds
-use Rattle.store.proofs.is_full.Reads as is_full_reads
-use Rattle.store.proofs.free_places.Kinds as free_places_kinds
-use Rattle.store.proofs.free_places.Reads as free_places_reads
-use Rattle.store.proofs.put.Kinds as put_kinds
-use Rattle.store.proofs.put.Reads as put_reads
-use Rattle.store.proofs.look.Kinds as look_kinds
-use Rattle.store.proofs.look.Reads as look_reads
-use Rattle.store.proofs.drop_first.Kinds as drop_first_kinds
-use Rattle.store.proofs.drop_first.Reads as drop_first_reads
-use Rattle.store.proofs.drop_found.Kinds as drop_found_kinds
-use Rattle.store.proofs.drop_found.Reads as drop_found_reads
-use Rattle.store.proofs.find_end.Kinds as find_end_kinds
-use Rattle.store.proofs.find_end.Reads as find_end_reads
+use Rattle.store.proofs.Store.fresh.Kinds as fresh_kinds
+use Rattle.store.proofs.Store.fresh.Reads as fresh_reads
+use Rattle.store.proofs.ArrayU322FromStore.from.Kinds as store_words_kinds
+use Rattle.store.proofs.ArrayU322FromStore.from.Reads as store_words_reads
+use Rattle.store.proofs.StoreFromArrayU322.from.Kinds as store_of_kinds
+use Rattle.store.proofs.StoreFromArrayU322.from.Reads as store_of_reads
+use Rattle.store.proofs.Store.is_bad.Kinds as is_bad_kinds
+use Rattle.store.proofs.Store.is_bad.Reads as is_bad_reads
+use Rattle.store.proofs.Store.is_empty.Kinds as is_empty_kinds
+use Rattle.store.proofs.Store.is_empty.Reads as is_empty_reads
+use Rattle.store.proofs.Store.is_full.Kinds as is_full_kinds
+use Rattle.store.proofs.Store.is_full.Reads as is_full_reads
+use Rattle.store.proofs.Store.free_places.Kinds as free_places_kinds
+use Rattle.store.proofs.Store.free_places.Reads as free_places_reads
+use Rattle.store.proofs.Store.put.Kinds as put_kinds
+use Rattle.store.proofs.Store.put.Reads as put_reads
+use Rattle.store.proofs.Store.look.Kinds as look_kinds
+use Rattle.store.proofs.Store.look.Reads as look_reads
+use Rattle.store.proofs.Store.drop_first.Kinds as drop_first_kinds
+use Rattle.store.proofs.Store.drop_first.Reads as drop_first_reads
+use Rattle.store.proofs.Store.drop_found.Kinds as drop_found_kinds
+use Rattle.store.proofs.Store.drop_found.Reads as drop_found_reads
+use Rattle.store.proofs.Store.find_end.Kinds as find_end_kinds
+use Rattle.store.proofs.Store.find_end.Reads as find_end_reads
 
 pub fresh : OneResult 0 fresh_kinds.ps fresh_kinds.r fresh_reads.Post
 fresh κs a x y s t p q = p ∙ sym q
@@ -36,8 +36,8 @@ store_words κs a x y s t p q = p ∙ sym q
 pub store_of : OneResult 0 store_of_kinds.ps store_of_kinds.r store_of_reads.Post
 store_of κs a x y s t p q = p ∙ sym q
 
-pub bad : OneResult 0 bad_kinds.ps bad_kinds.r bad_reads.Post
-bad κs a x y s t p q = p ∙ sym q
+pub is_bad : OneResult 0 is_bad_kinds.ps is_bad_kinds.r is_bad_reads.Post
+is_bad κs a x y s t p q = p ∙ sym q
 
 pub is_empty : OneResult 0 is_empty_kinds.ps is_empty_kinds.r is_empty_reads.Post
 is_empty κs a x y s t p q = p ∙ sym q

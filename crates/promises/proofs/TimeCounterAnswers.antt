@@ -5,20 +5,20 @@ use contract.Lifetimes.{Lfts}
 use denote.Triple.Clauses.{AtExit}
 use borrow.Fn.Kinds.{Dens, res_t, ended_of}
 use Rattle.promises.specs.OneAnswer.{OneResult}
-use Rattle.time.proofs.fresh.Kinds as fresh_kinds
-use Rattle.time.proofs.fresh.Reads as fresh_reads
-use Rattle.time.proofs.bad.Kinds as bad_kinds
-use Rattle.time.proofs.bad.Reads as bad_reads
-use Rattle.time.proofs.after.Kinds as after_kinds
-use Rattle.time.proofs.after.Reads as after_reads
-use Rattle.time.proofs.time_code.Kinds as time_code_kinds
-use Rattle.time.proofs.time_code.Reads as time_code_reads
+use Rattle.time.proofs.Time.fresh.Kinds as fresh_kinds
+use Rattle.time.proofs.Time.fresh.Reads as fresh_reads
+use Rattle.time.proofs.Time.is_bad.Kinds as is_bad_kinds
+use Rattle.time.proofs.Time.is_bad.Reads as is_bad_reads
+use Rattle.time.proofs.Time.after.Kinds as after_kinds
+use Rattle.time.proofs.Time.after.Reads as after_reads
+use Rattle.time.proofs.Time.time_code.Kinds as time_code_kinds
+use Rattle.time.proofs.Time.time_code.Reads as time_code_reads
 
 pub fresh : OneResult 0 fresh_kinds.ps fresh_kinds.r fresh_reads.Post
 fresh κs a x y s t p q = p ∙ sym q
 
-pub bad : OneResult 0 bad_kinds.ps bad_kinds.r bad_reads.Post
-bad κs a x y s t p q = p ∙ sym q
+pub is_bad : OneResult 0 is_bad_kinds.ps is_bad_kinds.r is_bad_reads.Post
+is_bad κs a x y s t p q = p ∙ sym q
 
 pub after : OneResult 0 after_kinds.ps after_kinds.r after_reads.Post
 after κs a x y s t p q = p ∙ sym q

@@ -2,6 +2,8 @@
 -- Assumes nothing.
 use mathlib.Core.Path.{sym, ◌∙◌}
 use Rattle.promises.specs.OneAnswer.{OneResult}
+use Rattle.vocabulary.proofs.U32FromRefusal.from.Kinds as number_kinds
+use Rattle.vocabulary.proofs.U32FromRefusal.from.Reads as number_reads
 use Rattle.vocabulary.proofs.refuse.Kinds as refuse_kinds
 use Rattle.vocabulary.proofs.refuse.Reads as refuse_reads
 use Rattle.vocabulary.proofs.read_as.Kinds as read_as_kinds
@@ -16,6 +18,9 @@ use Rattle.vocabulary.proofs.kind.Kinds as kind_kinds
 use Rattle.vocabulary.proofs.kind.Reads as kind_reads
 use Rattle.vocabulary.proofs.value.Kinds as value_kinds
 use Rattle.vocabulary.proofs.value.Reads as value_reads
+
+pub number : OneResult 0 number_kinds.ps number_kinds.r number_reads.Post
+number κs a x y s t p q = p ∙ sym q
 
 pub refuse : OneResult 0 refuse_kinds.ps refuse_kinds.r refuse_reads.Post
 refuse κs a x y s t p q = p ∙ sym q
