@@ -8,6 +8,7 @@ use native.Mathlib.Omega.{arith}
 use lib.ListN.{length}
 use lib.Dec.{eqb}
 use borrow.Author.Tests.{eq-eqb, ne_eqb, eqb-true}
+use Rattle.std.specs.Prelude.{Option}
 use Rattle.vocabulary.specs.Choice.{pick}
 use Rattle.vocabulary.specs.Refusals.{STATE, number}
 use Rattle.vocabulary.specs.declared.Token.{Token}
@@ -16,7 +17,6 @@ use Rattle.words.specs.Arguments.{token_of}
 use Rattle.words.proofs.SameLaws.{same_is}
 use Rattle.link.specs.Ends.{Settled}
 use Rattle.link.specs.declared.Event.TheVariants.{Quiet}
-use Rattle.link.specs.declared.Sent.{Sent}
 use Rattle.link.specs.Calls.{accepted, refused, both, answered, refused_with, dispatched, dispatch_of, send_refused}
 use Rattle.link.specs.Calls.{send_outcome, receive_outcome, token_accepted, received, receipt_of, receiving}
 use Rattle.link.specs.Calls.{receive_refused as as_refused}
@@ -104,7 +104,7 @@ module _ (words rx tx : List ℕ) where
   unfolding send_left send_outcome end_of no_link dispatch_left dispatched dispatch_of send_refused
   send_refusal = by (is_link words) refl
     where
-      sends : (sent : Sent) (s : Settled) (n : ℕ) (test : Bool) → eqb n 0 ≡ test →
+      sends : (sent : Option Token) (s : Settled) (n : ℕ) (test : Bool) → eqb n 0 ≡ test →
           (dispatch_left (pick test (dispatched sent s) (record { answer = send_refused (link_of words) n; rx = rx }))).refusal ≡ n
       sends sent s n true e = sym (eqb-true n 0 e)
       sends sent s n false e = refl

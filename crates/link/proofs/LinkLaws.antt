@@ -8,6 +8,7 @@ use native.Mathlib.Omega.{arith}
 use lib.ListN.{length}
 use lib.Dec.{eqb}
 use borrow.Author.Tests.{eq-eqb}
+use Rattle.std.specs.Prelude.{Option, None, Some}
 use Rattle.vocabulary.specs.Choice.{pick}
 use Rattle.words.specs.Words.{word_at, truth, truth_word, byte, same}
 use Rattle.words.proofs.NumberLaws.{byte_back, truth_back}
@@ -17,7 +18,7 @@ use Rattle.time.specs.declared.Time.{Time}
 use Rattle.link.specs.Send.{offer_number, offer_value}
 use Rattle.link.specs.Moves.{state_number}
 use Rattle.link.specs.Table.{state_of}
-use Rattle.link.specs.Records.{Offer, Absent, Code, Link}
+use Rattle.link.specs.Records.{Link}
 use Rattle.link.specs.LinkWords.{link_words, link_of, stage_in, controls_in, credit_in, marks_in, offer_of}
 use Rattle.link.specs.LinkWords.{time_words, time_of, is_link, is_time, FitsOffer, KeepsLinks}
 use Rattle.link.specs.LinkWords.{STATE, GOT_NULL, NULL_SENT, DISABLED, START, AUTO, STORED, SENT, TAKEN, PUT}
@@ -49,9 +50,9 @@ marks_back l =
       truth_back l.marks.discarding,
     )
 
-offer_back : (o : Offer) → FitsOffer o → offer_of (offer_number o) (offer_value o) ≡ o
-offer_back Absent h = refl
-offer_back (Code v) h = rw (byte_back v h)
+offer_back : (o : Option ℕ) → FitsOffer o → offer_of (offer_number o) (offer_value o) ≡ o
+offer_back None h = refl
+offer_back (Some v) h = rw (byte_back v h)
 
 link_back : (l : Link) → FitsOffer l.offer → link_of (link_words l) ≡ l
 unfolding link_of link_words store_of
@@ -82,7 +83,7 @@ pub offer_fits : (words : List ℕ) → FitsOffer (link_of words).offer
 unfolding link_of
 offer_fits words = by (eqb (word_at words OFFERED) 0) (word_at words CODE)
   where
-    by : (none : Bool) (code : ℕ) → FitsOffer (pick none Absent (Code (byte code)))
+    by : (none : Bool) (code : ℕ) → FitsOffer (pick none None (Some (byte code)))
     by true code = tt
     by false code = omega arith
 

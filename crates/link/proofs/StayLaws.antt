@@ -6,6 +6,7 @@ use mathlib.Core.Bool.{Bool, true, false, ◌&&◌}
 use mathlib.Core.List.{List, [], ◌∷◌}
 use lib.ListN.{length}
 use lib.Dec.{eqb}
+use Rattle.std.specs.Prelude.{Option}
 use Rattle.vocabulary.specs.Choice.{pick}
 use Rattle.vocabulary.specs.declared.Token.{Token}
 use Rattle.words.specs.Words.{Stays}
@@ -22,7 +23,6 @@ use Rattle.link.specs.Calls.{receipt_of, received, receive_refused, receiving, t
 use Rattle.link.specs.Calls.{put_answer, put_places_after, take_accepted, take_refused, take_answer, offer_accepted}
 use Rattle.link.specs.Calls.{offer_answer}
 use Rattle.link.specs.Records.{Controls}
-use Rattle.link.specs.declared.Sent.{Sent}
 use Rattle.link.specs.declared.FaultKind.{FaultKind}
 use Rattle.link.specs.declared.FaultKind.TheVariants.{ParityFault, EscapeFault, DisconnectFault}
 use Rattle.link.specs.Records.{Link}
@@ -107,7 +107,7 @@ fault_stays words rx tx kind =
     either words rx (0 ∷ []) (is_link words) _
     (λ p. numbered_kept words (end_of words rx tx) kind (own words p))
 
-dispatch_stays : (words : List ℕ) (e : End) (sent : Sent) (s : Settled) (n : ℕ) (test : Bool) → link_words e.link ≡ words →
+dispatch_stays : (words : List ℕ) (e : End) (sent : Option Token) (s : Settled) (n : ℕ) (test : Bool) → link_words e.link ≡ words →
     StaysWith words e.rx (0 ∷ 0 ∷ 0 ∷ [])
     (dispatch_left (pick test (dispatched sent s) (record { answer = send_refused e.link n; rx = e.rx })))
 unfolding dispatch_left dispatched dispatch_of send_refused

@@ -1,7 +1,7 @@
 -- What each call on a link end answers and what the lent places hold afterwards: the refusal if there is one, else the event's
 -- effect, else the one move that fits. A refused call hands back the record that it was given and leaves what it was lent.
 -- Assumes nothing.
-use Rattle.std.specs.Prelude.{ℕ, false, List, length, eqb}
+use Rattle.std.specs.Prelude.{ℕ, false, List, length, eqb, Option, None}
 use Rattle.vocabulary.specs.Choice.{pick}
 use Rattle.vocabulary.specs.declared.Token.{Token}
 use Rattle.time.specs.declared.Time.{Time}
@@ -15,8 +15,6 @@ use Rattle.link.specs.Refusals.{both_refusal, receive_refusal, put_refusal, take
 use Rattle.link.specs.declared.Event.TheVariants.{Quiet}
 use Rattle.link.specs.declared.FaultKind.{FaultKind}
 use Rattle.link.specs.Records.{Controls, Sending, Link, Moved, Effect, Answer, Receipt}
-use Rattle.link.specs.declared.Sent.{Sent}
-use Rattle.link.specs.declared.Sent.TheVariants.{Silence}
 use Rattle.link.specs.Records.{Dispatch, Taken}
 
 -- an answer, with what the places of the receive store hold when the call returns
@@ -57,14 +55,14 @@ unfoldable pub reset_outcome : End → Outcome Answer
 reset_outcome e = pick (eqb (both e) 0) (accepted (resets e.rx e.link)) (refused e (both e))
 
 -- a send: the token of the state before, what is booked for it, then the table
-unfoldable pub dispatch_of : Sent → Moved → Dispatch
+unfoldable pub dispatch_of : Option Token → Moved → Dispatch
 dispatch_of t m = record { refusal = 0; link = m.link; discarded = m.discarded; sent = t }
 
-unfoldable pub dispatched : Sent → Settled → Outcome Dispatch
+unfoldable pub dispatched : Option Token → Settled → Outcome Dispatch
 dispatched t s = record { answer = dispatch_of t s.moved; rx = s.rx }
 
 unfoldable pub send_refused : Link → ℕ → Dispatch
-send_refused l number = record { refusal = number; link = l; discarded = 0; sent = Silence }
+send_refused l number = record { refusal = number; link = l; discarded = 0; sent = None }
 
 abbrev pub sent : End → Sending
 sent e = sending (length e.rx) e.tx e.link

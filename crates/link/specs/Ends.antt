@@ -1,10 +1,10 @@
 -- 01, The link end: its record, the places that it is lent, and the record with one part changed.
 -- Assumes nothing.
-use Rattle.std.specs.Prelude.{ℕ, Bool, false, List}
+use Rattle.std.specs.Prelude.{ℕ, Bool, false, List, Option, None}
 use Rattle.store.specs.Changes.{fresh_store}
 use Rattle.store.specs.declared.Store.{Store}
 use Rattle.link.specs.declared.LinkState.TheVariants.{ErrorReset}
-use Rattle.link.specs.Records.{Stage, Controls, Credit, Marks, Offer, Absent, Link, Moved}
+use Rattle.link.specs.Records.{Stage, Controls, Credit, Marks, Link, Moved}
 
 -- a link end with what it is lent: the places of its receive store and of its transmit store
 pub record End : Type 0 where
@@ -31,7 +31,7 @@ fresh_link =
       controls = record { disabled = false; start = false; auto = false };
       credit = no_credit;
       marks = record { stored = false; sent = false; taken = false; put = false; discarding = false };
-      offer = Absent;
+      offer = None;
       rx = fresh_store;
       tx = fresh_store;
     }
@@ -53,7 +53,7 @@ unfoldable pub with_marks : Link → Marks → Link
 with_marks l new =
     record { stage = l.stage; controls = l.controls; credit = l.credit; marks = new; offer = l.offer; rx = l.rx; tx = l.tx }
 
-unfoldable pub with_offer : Link → Offer → Link
+unfoldable pub with_offer : Link → Option ℕ → Link
 with_offer l new =
     record { stage = l.stage; controls = l.controls; credit = l.credit; marks = l.marks; offer = new; rx = l.rx; tx = l.tx }
 

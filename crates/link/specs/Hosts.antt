@@ -1,11 +1,11 @@
 -- 01, what the host does: put, take, and offering a Time-Code. "Put, take and Time-Code offers never move the state."
 -- Assumes nothing.
-use Rattle.std.specs.Prelude.{ℕ, not, List}
+use Rattle.std.specs.Prelude.{ℕ, not, List, Some}
 use Rattle.vocabulary.specs.Choice.{pick}
 use Rattle.vocabulary.specs.NChars.{is_end}
 use Rattle.store.specs.Changes.{put_store, put_places, front_of, without_first}
 use Rattle.link.specs.Ends.{with_marks, with_offer, with_rx, with_tx, mark_taken, mark_put, mark_discarding}
-use Rattle.link.specs.Records.{Code, Link, Moved}
+use Rattle.link.specs.Records.{Link, Moved}
 
 -- "later puts are accepted and discarded through the first end"
 unfoldable pub put_discarded : Link → ℕ → Moved
@@ -34,4 +34,4 @@ takes rx l n = with_marks (with_rx l (without_first rx l.rx)) (mark_taken l.mark
 
 -- "A second Time-Code offer in Run replaces the first."
 unfoldable pub offers : Link → ℕ → Link
-offers l v = with_offer l (Code v)
+offers l v = with_offer l (Some v)

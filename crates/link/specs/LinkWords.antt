@@ -1,12 +1,12 @@
 -- The words of a link end, and those of a time record: where each field stands, what the words of a record are, and what
 -- words mean.
 -- Assumes nothing.
-use Rattle.std.specs.Prelude.{ℕ, ◌<◌, ◌≡◌, Bool, true, List, [], ◌∷◌, ◌++◌, eqb}
+use Rattle.std.specs.Prelude.{ℕ, ◌<◌, ◌≡◌, Bool, true, List, [], ◌∷◌, ◌++◌, eqb, Option, None, Some}
 use Rattle.vocabulary.specs.Choice.{pick}
 use Rattle.words.specs.Words.{word_at, truth_word, truth, byte, same}
 use Rattle.store.specs.StoreWords.{store_fields, store_of}
 use Rattle.time.specs.declared.Time.{Time}
-use Rattle.link.specs.Records.{Stage, Controls, Credit, Marks, Offer, Absent, Code, Link}
+use Rattle.link.specs.Records.{Stage, Controls, Credit, Marks, Link}
 use Rattle.link.specs.Send.{offer_number, offer_value}
 use Rattle.link.specs.Moves.{state_number}
 use Rattle.link.specs.Table.{state_of}
@@ -91,7 +91,7 @@ marks_words m =
     ∷ truth_word m.discarding
     ∷ []
 
-abbrev pub offer_words : Offer → List ℕ
+abbrev pub offer_words : Option ℕ → List ℕ
 offer_words o = offer_number o ∷ offer_value o ∷ []
 
 unfoldable pub link_words : Link → List ℕ
@@ -139,8 +139,8 @@ marks_in words =
       discarding = truth (word_at words DISCARDING);
     }
 
-abbrev pub offer_of : ℕ → ℕ → Offer
-offer_of n code = pick (eqb n 0) Absent (Code (byte code))
+abbrev pub offer_of : ℕ → ℕ → Option ℕ
+offer_of n code = pick (eqb n 0) None (Some (byte code))
 
 unfoldable pub link_of : List ℕ → Link
 link_of words =
@@ -165,9 +165,9 @@ abbrev pub is_time : List ℕ → Bool
 is_time words = same words (time_words (time_of words))
 
 -- a Time-Code has eight bits
-abbrev pub FitsOffer : Offer → Type 0
-FitsOffer Absent = Unit {0}
-FitsOffer (Code v) = v < 256
+abbrev pub FitsOffer : Option ℕ → Type 0
+FitsOffer None = Unit {0}
+FitsOffer (Some v) = v < 256
 
 -- the words of an end, and of a time record, mean it
 pub record KeepsLinks : Type 0 where

@@ -1,13 +1,13 @@
 -- 01, The link end: what the words of an end mean, and what its calls answer.
 -- Assumes nothing.
-use Rattle.std.specs.Prelude.{ℕ, Bool}
+use Rattle.std.specs.Prelude.{ℕ, Bool, Option}
+use Rattle.vocabulary.specs.declared.Token.{Token}
 use Rattle.store.specs.declared.Store.{Store}
 use Rattle.time.specs.declared.Time.{Time}
 use Rattle.link.specs.declared.LinkState.{LinkState}
 use Rattle.link.specs.declared.Event.{Event}
 use Rattle.link.specs.declared.Held.{Held}
 use Rattle.link.specs.declared.GivenOut.{GivenOut}
-use Rattle.link.specs.declared.Sent.{Sent}
 
 -- the state, its timer, gotNULL and the NULL-sent mark
 pub record Stage : Type 0 where
@@ -35,17 +35,13 @@ pub record Marks : Type 0 where
   pub put : Bool
   pub discarding : Bool
 
--- the waiting Time-Code
-pub data Offer : Type 0 where
-  Absent : Offer
-  Code : ℕ → Offer
-
+-- `offer`: the waiting Time-Code
 pub record Link : Type 0 where
   pub stage : Stage
   pub controls : Controls
   pub credit : Credit
   pub marks : Marks
-  pub offer : Offer
+  pub offer : Option ℕ
   pub rx : Store
   pub tx : Store
 
@@ -64,7 +60,7 @@ pub record Effect : Type 0 where
 -- what a send does before the move
 pub record Sending : Type 0 where
   pub link : Link
-  pub sent : Sent
+  pub sent : Option Token
 
 -- the answers of the calls: the refusal first, then the end
 pub record Answer : Type 0 where
@@ -83,7 +79,7 @@ pub record Dispatch : Type 0 where
   pub refusal : ℕ
   pub link : Link
   pub discarded : ℕ
-  pub sent : Sent
+  pub sent : Option Token
 
 pub record Taken : Type 0 where
   pub refusal : ℕ

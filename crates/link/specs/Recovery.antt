@@ -1,6 +1,6 @@
 -- 01, Going to ErrorReset by a move; and settling after an event: at most one move.
 -- Assumes nothing.
-use Rattle.std.specs.Prelude.{ℕ, false, not, ◌||◌, List, length}
+use Rattle.std.specs.Prelude.{ℕ, false, not, ◌||◌, List, length, None}
 use Rattle.vocabulary.specs.Choice.{pick}
 use Rattle.vocabulary.specs.NChars.{EEP}
 use Rattle.store.specs.Changes.{put_store, put_places, without_found, found}
@@ -10,7 +10,7 @@ use Rattle.link.specs.Moves.{is_state, next_state, entered}
 use Rattle.link.specs.declared.LinkState.{LinkState}
 use Rattle.link.specs.declared.LinkState.TheVariants.{ErrorReset}
 use Rattle.link.specs.declared.Event.{Event}
-use Rattle.link.specs.Records.{Absent, Link, Moved}
+use Rattle.link.specs.Records.{Link, Moved}
 
 -- "Both counters, gotNULL, the NULL-sent mark and the waiting Time-Code are cleared."
 unfoldable pub cleared : Link → Link
@@ -20,7 +20,7 @@ cleared l =
       controls = l.controls;
       credit = no_credit;
       marks = l.marks;
-      offer = Absent;
+      offer = None;
       rx = l.rx;
       tx = l.tx;
     }

@@ -1,6 +1,6 @@
 -- 01, Send: what goes out, and what is booked for it.
 -- Assumes nothing.
-use Rattle.std.specs.Prelude.{ℕ, ◌+◌, ◌-◌, Bool, true, not, ◌&&◌, List, eqb}
+use Rattle.std.specs.Prelude.{ℕ, ◌+◌, ◌-◌, Bool, true, not, ◌&&◌, List, eqb, Option, None, Some}
 use Rattle.vocabulary.specs.Choice.{pick}
 use Rattle.vocabulary.specs.NChars.{is_end}
 use Rattle.vocabulary.specs.Tokens.{kind_of, value_of}
@@ -12,27 +12,25 @@ use Rattle.link.specs.Ends.{with_stage, with_marks, with_offer, with_tx, mark_se
 use Rattle.link.specs.Credit.{may_grant, with_held, with_given}
 use Rattle.link.specs.declared.LinkState.{LinkState}
 use Rattle.link.specs.declared.LinkState.TheVariants.{ErrorReset, ErrorWait, Ready, Started, Connecting, Run}
-use Rattle.link.specs.Records.{Offer, Absent, Code, Link, Sending}
-use Rattle.link.specs.declared.Sent.{Sent}
-use Rattle.link.specs.declared.Sent.TheVariants.{Silence, Sends}
+use Rattle.link.specs.Records.{Link, Sending}
 
 -- what is sent, by number: 0 nothing, else the token's
-abbrev pub sent_kind : Sent → ℕ
-sent_kind Silence = 0
-sent_kind (Sends t) = kind_of t
+abbrev pub sent_kind : Option Token → ℕ
+sent_kind None = 0
+sent_kind (Some t) = kind_of t
 
-abbrev pub sent_value : Sent → ℕ
-sent_value Silence = 0
-sent_value (Sends t) = value_of t
+abbrev pub sent_value : Option Token → ℕ
+sent_value None = 0
+sent_value (Some t) = value_of t
 
 -- "waiting Time-Code", by number: 0 none, 1 one, with its eight bits
-abbrev pub offer_number : Offer → ℕ
-offer_number Absent = 0
-offer_number (Code v) = 1
+abbrev pub offer_number : Option ℕ → ℕ
+offer_number None = 0
+offer_number (Some v) = 1
 
-abbrev pub offer_value : Offer → ℕ
-offer_value Absent = 0
-offer_value (Code v) = v
+abbrev pub offer_value : Option ℕ → ℕ
+offer_value None = 0
+offer_value (Some v) = v
 
 -- "FCT if it may": free places of a receive store of this size
 abbrev pub grants : ℕ → Link → Bool
@@ -48,20 +46,20 @@ abbrev pub choice_in_run : ℕ → List ℕ → Link → Token
 choice_in_run size tx l = pick (grants size l) Fct (pick (has_n_char l) (NChar (front_of tx l.tx)) Null)
 
 -- "Run: waiting Time-Code, else .."
-abbrev pub choice_with : Offer → ℕ → List ℕ → Link → Token
-choice_with Absent size tx l = choice_in_run size tx l
-choice_with (Code v) size tx l = TimeCode v
+abbrev pub choice_with : Option ℕ → ℕ → List ℕ → Link → Token
+choice_with None size tx l = choice_in_run size tx l
+choice_with (Some v) size tx l = TimeCode v
 
 -- "ErrorReset, ErrorWait, Ready: nothing. Started: NULL. Connecting: FCT if it may, else NULL."
-abbrev pub choice_in : LinkState → ℕ → List ℕ → Link → Sent
-choice_in ErrorReset size tx l = Silence
-choice_in ErrorWait size tx l = Silence
-choice_in Ready size tx l = Silence
-choice_in Started size tx l = Sends Null
-choice_in Connecting size tx l = Sends (pick (grants size l) Fct Null)
-choice_in Run size tx l = Sends (choice_with l.offer size tx l)
+abbrev pub choice_in : LinkState → ℕ → List ℕ → Link → Option Token
+choice_in ErrorReset size tx l = None
+choice_in ErrorWait size tx l = None
+choice_in Ready size tx l = None
+choice_in Started size tx l = Some Null
+choice_in Connecting size tx l = Some (pick (grants size l) Fct Null)
+choice_in Run size tx l = Some (choice_with l.offer size tx l)
 
-abbrev pub choice : ℕ → List ℕ → Link → Sent
+abbrev pub choice : ℕ → List ℕ → Link → Option Token
 choice size tx l = choice_in l.stage.state size tx l
 
 unfoldable pub null_sent : Link → Link
@@ -79,11 +77,11 @@ abbrev pub booked_token : List ℕ → Link → Token → Link
 booked_token tx l Null = null_sent l
 booked_token tx l Fct = with_given l (l.credit.given.0 + 8)
 booked_token tx l (NChar n) = n_char_sent tx l n
-booked_token tx l (TimeCode v) = with_offer l Absent
+booked_token tx l (TimeCode v) = with_offer l None
 
-abbrev pub booked : List ℕ → Link → Sent → Link
-booked tx l Silence = l
-booked tx l (Sends t) = booked_token tx l t
+abbrev pub booked : List ℕ → Link → Option Token → Link
+booked tx l None = l
+booked tx l (Some t) = booked_token tx l t
 
 unfoldable pub sending : ℕ → List ℕ → Link → Sending
 sending size tx l = record { link = booked tx l (choice size tx l); sent = choice size tx l }

@@ -3,7 +3,6 @@
 #![tactic(auto)]
 
 use time::Time;
-use vocabulary::Token;
 
 pub mod calls;
 mod counters;
@@ -49,13 +48,6 @@ pub struct Held(pub u8);
 
 #[derive(Clone, Copy, Drop)]
 pub struct GivenOut(pub u8);
-
-// What goes out on a send.
-#[derive(Clone, Copy, Drop)]
-pub enum Sent {
-    Silence,
-    Sends(Token),
-}
 
 // What a received token comes to, beside its effect on the words: the event that the table sees, the time record after it,
 // and whether it gives a tick out.

@@ -116,7 +116,7 @@ pub(crate) fn bad_sizes(rx: usize, tx: usize) -> bool
 fn lacks_room(words: &Words, size: usize) -> bool
     ensures { Reads words.now (lacks_room size) result }
 {
-    let given = words::wide(words[GIVEN_OUT]);
+    let given = words[GIVEN_OUT] as usize;
     let free = store::free_places(fields::rx_in(words), size);
     ((given != 0) | words::truth(words[STORED])) & (free <= given)
 }

@@ -1,8 +1,8 @@
 // What goes out (01, Send).
-ghost use Rattle.std.specs.Prelude.{◌≡◌, ◌+◌};
+ghost use Rattle.std.specs.Prelude.{◌≡◌, ◌+◌, None};
 ghost use Rattle.vocabulary.specs.Choice.{pick};
 ghost use Rattle.vocabulary.specs.declared.Token.{Token};
-ghost use Rattle.link.specs.Records.{Link, Absent};
+ghost use Rattle.link.specs.Records.{Link};
 ghost use Rattle.link.specs.Ends.{with_offer};
 ghost use Rattle.link.specs.Credit.{with_given};
 ghost use Rattle.link.specs.Send.{sent_kind, sent_value, grants, has_n_char, choice_in_run, choice_with};
@@ -10,25 +10,25 @@ ghost use Rattle.link.specs.Send.{choice, null_sent, n_char_sent, booked_token, 
 ghost use Rattle.link.specs.InPlace.{ReadsGood, Writes, WritesGood, SmallEnough};
 
 use crate::fields::{CODE, NULL_SENT, OFFERED, SENT, Words};
-use crate::{LinkState, Sent, counters, fields};
+use crate::{LinkState, counters, fields};
 use vocabulary::Token;
 
 // What is sent, by number: 0 nothing, else the token's.
-pub(crate) fn sent_kind(s: Sent) -> u8
+pub(crate) fn sent_kind(s: Option<Token>) -> u8
     ensures { result ≡ sent_kind s }
 {
     match s {
-        Sent::Silence => 0,
-        Sent::Sends(t) => vocabulary::kind(t),
+        None => 0,
+        Some(t) => vocabulary::kind(t),
     }
 }
 
-pub(crate) fn sent_value(s: Sent) -> u16
+pub(crate) fn sent_value(s: Option<Token>) -> u16
     ensures { result ≡ sent_value s }
 {
     match s {
-        Sent::Silence => 0,
-        Sent::Sends(t) => vocabulary::value(t),
+        None => 0,
+        Some(t) => vocabulary::value(t),
     }
 }
 
@@ -78,17 +78,17 @@ fn fct_or_null(may: bool) -> Token
     if may { Token::Fct } else { Token::Null }
 }
 
-pub(crate) fn choose(words: &Words, size: usize, tx: &[u16]) -> Sent
+pub(crate) fn choose(words: &Words, size: usize, tx: &[u16]) -> Option<Token>
     ensures { ReadsGood words.now (choice size tx.now) result }
 {
     let state = fields::state_in(words);
     match state {
-        LinkState::ErrorReset => Sent::Silence,
-        LinkState::ErrorWait => Sent::Silence,
-        LinkState::Ready => Sent::Silence,
-        LinkState::Started => Sent::Sends(Token::Null),
-        LinkState::Connecting => Sent::Sends(fct_or_null(grants_fct(words, size))),
-        LinkState::Run => Sent::Sends(choose_with(words, size, tx)),
+        LinkState::ErrorReset => None,
+        LinkState::ErrorWait => None,
+        LinkState::Ready => None,
+        LinkState::Started => Some(Token::Null),
+        LinkState::Connecting => Some(fct_or_null(grants_fct(words, size))),
+        LinkState::Run => Some(choose_with(words, size, tx)),
     }
 }
 
@@ -116,7 +116,7 @@ fn n_char_sent(words: &mut Words, tx: &[u16], n: u16)
 }
 
 fn time_code_sent(words: &mut Words)
-    ensures { Writes words.old (λ (l : Link). with_offer l Absent) words.new }
+    ensures { Writes words.old (λ (l : Link). with_offer l None) words.new }
 {
     words[OFFERED] = 0;
     words[CODE] = 0;
@@ -134,11 +134,11 @@ fn book_token(words: &mut Words, tx: &[u16], t: Token)
 }
 
 // What is booked for what goes out.
-pub(crate) fn book(words: &mut Words, tx: &[u16], s: Sent)
+pub(crate) fn book(words: &mut Words, tx: &[u16], s: Option<Token>)
     ensures { SmallEnough tx.now → WritesGood words.old (λ (l : Link). booked tx.now l s) words.new }
 {
     match s {
-        Sent::Silence => {}
-        Sent::Sends(t) => book_token(words, tx, t),
+        None => {}
+        Some(t) => book_token(words, tx, t),
     }
 }

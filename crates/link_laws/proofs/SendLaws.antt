@@ -9,6 +9,7 @@ use native.Mathlib.Omega.{arith}
 use lib.Dec.{eqb}
 use lib.ListN.{length, get_or}
 use borrow.Author.Tests.{eqb-false, le-ltb, not-true}
+use Rattle.std.specs.Prelude.{Option, None, Some}
 use Rattle.vocabulary.specs.declared.Token.{Token}
 use Rattle.vocabulary.specs.declared.Token.TheVariants.{Null, Fct, NChar, TimeCode}
 use Rattle.store.specs.Ring.{free, empty}
@@ -22,7 +23,6 @@ use Rattle.link.specs.Calls.{with_link, sent}
 use Rattle.link.specs.declared.LinkState.{LinkState}
 use Rattle.link.specs.declared.LinkState.TheVariants.{ErrorReset, ErrorWait, Ready, Started, Connecting, Run}
 use Rattle.link.specs.declared.Event.TheVariants.{Quiet}
-use Rattle.link.specs.Records.{Offer, Absent, Code}
 use Rattle.link_laws.specs.Tokens.{tokens_of}
 use Rattle.link_laws.specs.NothingLost.{rx_waits, tx_waits}
 use Rattle.link_laws.proofs.GrantProof.{credit_rule}
@@ -92,11 +92,11 @@ module _ (e : End) (g : Good e) where
           whole = (le-ltb 257 (front_of e.tx e.link.tx) (read_small (get_or e.tx e.link.tx.front 0)), tt);
         })
 
-  in_run : (o : Offer) → is_late e.link.stage.state ≡ true → Books (choice_with o (length e.rx) e.tx e.link)
-  in_run Absent there =
+  in_run : (o : Option ℕ) → is_late e.link.stage.state ≡ true → Books (choice_with o (length e.rx) e.tx e.link)
+  in_run None there =
       either_way Books (grants (length e.rx) e.link) _ _ (fct_books there)
       (λ h. either_way Books (has_n_char e.link) _ _ (n_char_books there) (λ h. null_books))
-  in_run (Code v) there = time_code_books there v
+  in_run (Some v) there = time_code_books there v
 
   abbrev SendsIn : LinkState → Type 0
   SendsIn s =

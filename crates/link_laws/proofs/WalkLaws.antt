@@ -8,6 +8,7 @@ use Prim.Native.Nat.{ℕ}
 use native.Mathlib.Omega.{arith}
 use lib.Dec.{eqb}
 use lib.ListN.{length}
+use Rattle.std.specs.Prelude.{Option, None}
 use Rattle.vocabulary.specs.Choice.{pick}
 use borrow.Author.Tests.{eqb-true}
 use Rattle.vocabulary.specs.NChars.{above_eep}
@@ -30,8 +31,6 @@ use Rattle.link.specs.declared.Event.{Event}
 use Rattle.link.specs.declared.Event.TheVariants.{Quiet}
 use Rattle.link.specs.declared.FaultKind.{FaultKind}
 use Rattle.link.specs.Records.{Controls}
-use Rattle.link.specs.declared.Sent.{Sent}
-use Rattle.link.specs.declared.Sent.TheVariants.{Silence}
 use Rattle.link.specs.Records.{Link, Answer, Receipt, Taken}
 use Rattle.link_laws.specs.Tokens.{n_chars_on, tokens_of}
 use Rattle.link_laws.specs.Calls.{Call, tick, send, take, reset, fault, control, receive, put, offer, Reply}
@@ -69,7 +68,7 @@ event_no_reset (a_fault f) = refl
 event_no_reset (a_control c) = refl
 event_no_reset (a_token t time) = refl
 
-abbrev pub done : End → ℕ → List ℕ → Sent → List ℕ → Time → Bool → Reply
+abbrev pub done : End → ℕ → List ℕ → Option Token → List ℕ → Time → Bool → Reply
 done end discarded puts sent takes time tick_out =
     record {
       refusal = 0;
@@ -90,7 +89,7 @@ not_done number e time =
       time = time;
       discarded = 0;
       puts = [];
-      sent = Silence;
+      sent = None;
       takes = [];
       tick_out = false;
     }
@@ -98,19 +97,19 @@ not_done number e time =
 pub data Happened (e : End) : Call → Reply → Type 0 where
   nothing : (c : Call) (number : ℕ) (time : Time) → eqb number 0 ≡ false → (bad_time time ≡ false → Other number) →
       Happened e c (not_done number e time)
-  event : (c : Call) (event : Event) (mid : End) (sent : Sent) (heard : List Token) (time : Time) (tick_out : Bool) →
+  event : (c : Call) (event : Event) (mid : End) (sent : Option Token) (heard : List Token) (time : Time) (tick_out : Bool) →
       IsEvent e c event heard → Effected event e mid heard (tokens_of sent) →
       Happened e c (done (moved mid (settles event mid)) (settles event mid).moved.discarded [] sent [] time tick_out)
   a_put : (n : ℕ) (time : Time) → above_eep n ≡ false →
       not e.link.marks.discarding && full (length e.tx) e.link.tx ≡ false →
       Happened e (put n)
-      (done (after_put e n) (puts (length e.tx) e.link n).discarded (n ∷ []) Silence [] time false)
+      (done (after_put e n) (puts (length e.tx) e.link n).discarded (n ∷ []) None [] time false)
   a_take : (time : Time) → empty e.link.rx ≡ false →
-      Happened e take (done (after_take e) 0 [] Silence (taken_of e ∷ []) time false)
-  an_offer : (v : ℕ) (time : Time) → Happened e (offer v) (done (after_offer e v) 0 [] Silence [] time false)
+      Happened e take (done (after_take e) 0 [] None (taken_of e ∷ []) time false)
+  an_offer : (v : ℕ) (time : Time) → Happened e (offer v) (done (after_offer e v) 0 [] None [] time false)
   a_reset : (time : Time) →
       Happened e reset
-      (done (moved e (resets e.rx e.link)) (resets e.rx e.link).moved.discarded [] Silence [] time false)
+      (done (moved e (resets e.rx e.link)) (resets e.rx e.link).moved.discarded [] None [] time false)
 
 module _ (e : End) (g : Good e) (time : Time) where
   -- those that test the record and both stores are not refused; and a tick, a fault and a control change sends and hears
@@ -121,7 +120,7 @@ module _ (e : End) (g : Good e) (time : Time) where
         (settled_reply (pick (eqb (both e) 0) (accepted (settles this (with_link e l))) (refused e (both e))) e time)
     unfolding accepted answered replied
     settles_happened l f =
-        rw (good_passes e g) (event c this (with_link e l) Silence [] time false is_one f)
+        rw (good_passes e g) (event c this (with_link e l) None [] time false is_one f)
 
   send_happened : Happened e send (reply e time send)
   unfolding send_outcome dispatched dispatch_of replied_to_send
@@ -139,7 +138,7 @@ module _ (e : End) (g : Good e) (time : Time) where
       either_way (λ (o : Outcome Receipt). Happened e (receive t) (replied_to_token o e.tx)) (eqb (receiving e time t) 0) _ _
       (λ h.
       event (receive t) (after_token e time t).event
-      (record { link = (after_token e time t).link; rx = token_places e.rx e.link t; tx = e.tx }) Silence
+      (record { link = (after_token e time t).link; rx = token_places e.rx e.link t; tx = e.tx }) None
       (heeded e.link t) (after_token e time t).time (after_token e time t).tick (a_token t time)
       (token_effect_lem e g time t
       (passed_test (receive_tests (length e.rx) (length e.tx) e.link time t) (eqb-true (receiving e time t) 0 h) 3

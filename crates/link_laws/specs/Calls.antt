@@ -1,7 +1,7 @@
 -- A call on a link end with its arguments, and what it answers and leaves, by the calls as promised. The rest of this
 -- crate, and whoever joins ends, speaks of calls in this one shape.
 -- Assumes nothing.
-use Rattle.std.specs.Prelude.{ℕ, Bool, true, false, List, [], ◌∷◌, length, eqb}
+use Rattle.std.specs.Prelude.{ℕ, Bool, true, false, List, [], ◌∷◌, length, eqb, Option, None}
 use Rattle.vocabulary.specs.Choice.{pick}
 use Rattle.vocabulary.specs.declared.Token.{Token}
 use Rattle.time.specs.declared.Time.{Time}
@@ -10,8 +10,6 @@ use Rattle.link.specs.Calls.{Outcome, tick_outcome, fault_outcome, control_outco
 use Rattle.link.specs.Calls.{receive_outcome, put_answer, put_places_after, take_answer, offer_answer}
 use Rattle.link.specs.declared.FaultKind.{FaultKind}
 use Rattle.link.specs.Records.{Controls}
-use Rattle.link.specs.declared.Sent.{Sent}
-use Rattle.link.specs.declared.Sent.TheVariants.{Silence}
 use Rattle.link.specs.Records.{Answer, Receipt, Dispatch, Taken}
 
 pub data Call : Type 0 where
@@ -52,7 +50,7 @@ pub record Reply : Type 0 where
   pub time : Time
   pub discarded : ℕ
   pub puts : List ℕ
-  pub sent : Sent
+  pub sent : Option Token
   pub takes : List ℕ
   pub tick_out : Bool
 
@@ -69,7 +67,7 @@ replied ns a rx tx time =
       time = time;
       discarded = a.discarded;
       puts = if_accepted a.refusal ns;
-      sent = Silence;
+      sent = None;
       takes = [];
       tick_out = false;
     }
@@ -95,7 +93,7 @@ replied_to_token o tx =
       time = o.answer.time;
       discarded = o.answer.discarded;
       puts = [];
-      sent = Silence;
+      sent = None;
       takes = [];
       tick_out = o.answer.tick;
     }
@@ -108,7 +106,7 @@ replied_to_take a rx tx time =
       time = time;
       discarded = a.discarded;
       puts = [];
-      sent = Silence;
+      sent = None;
       takes = if_accepted a.refusal (a.nchar ∷ []);
       tick_out = false;
     }

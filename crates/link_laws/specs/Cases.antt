@@ -1,6 +1,6 @@
 -- 01, Numbers to hold it to: the starred cases of the link end and of time, ready to be gathered.
 -- Assumes nothing.
-use Rattle.std.specs.Prelude.{◌≡◌, true, false, List, [], ◌∷◌, ℕ, replicate}
+use Rattle.std.specs.Prelude.{◌≡◌, true, false, List, [], ◌∷◌, ℕ, replicate, Some}
 use Rattle.vocabulary.specs.declared.Token.{Token}
 use Rattle.vocabulary.specs.declared.Token.TheVariants.{Null, Fct, NChar, TimeCode}
 use Rattle.store.specs.Ring.{waiting}
@@ -13,7 +13,6 @@ use Rattle.link.specs.declared.LinkState.{LinkState}
 use Rattle.link.specs.declared.LinkState.TheVariants.{ErrorReset, ErrorWait, Ready, Started, Connecting, Run}
 use Rattle.link.specs.declared.Event.{Event}
 use Rattle.link.specs.declared.Event.TheVariants.{CreditError}
-use Rattle.link.specs.declared.Sent.TheVariants.{Sends}
 use Rattle.link_laws.specs.Calls.{Call, tick, send, control, receive, Reply, reply, Turn, end_after, fresh_end}
 
 -- a fresh end with the smallest stores
@@ -79,8 +78,8 @@ pub record LinkCases : Type 0 where
   pub given_0_ends : (hears (end_in Run 0 0) (NChar 65)).end.link.stage.state ≡ ErrorReset
   pub given_0_stores_none : receive_waits (hears (end_in Run 0 0) (NChar 65)).end ≡ []
   -- "Connecting, empty receive store of 9, given out 0: first send FCT, second NULL."
-  pub first_send : (sends (end_in Connecting 0 0)).sent ≡ Sends Fct
-  pub second_send : (sends (sends (end_in Connecting 0 0)).end).sent ≡ Sends Null
+  pub first_send : (sends (end_in Connecting 0 0)).sent ≡ Some Fct
+  pub second_send : (sends (sends (end_in Connecting 0 0)).end).sent ≡ Some Null
   -- "Count 63, Time-Code 0: tick. Count 63, Time-Code 1: dropped."
   pub time_code_0 : (reply (end_in Run 0 0) count63 (receive (TimeCode 0))).tick_out ≡ true
   pub time_code_0_counts : (reply (end_in Run 0 0) count63 (receive (TimeCode 0))).time.count ≡ 0

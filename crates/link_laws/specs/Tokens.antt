@@ -1,10 +1,8 @@
 -- What tokens carry: of a list of them, in order, how many are FCTs, and the N-Chars.
 -- Assumes nothing.
-use Rattle.std.specs.Prelude.{List, [], ◌∷◌, ℕ, suc}
+use Rattle.std.specs.Prelude.{List, [], ◌∷◌, ℕ, suc, Option, None, Some}
 use Rattle.vocabulary.specs.declared.Token.{Token}
 use Rattle.vocabulary.specs.declared.Token.TheVariants.{Null, Fct, NChar, TimeCode}
-use Rattle.link.specs.declared.Sent.{Sent}
-use Rattle.link.specs.declared.Sent.TheVariants.{Silence, Sends}
 
 abbrev pub fcts_on : List Token → ℕ
 fcts_on [] = 0
@@ -21,6 +19,6 @@ n_chars_on (NChar n ∷ ts) = n ∷ n_chars_on ts
 n_chars_on (TimeCode v ∷ ts) = n_chars_on ts
 
 -- what a send gave out
-abbrev pub tokens_of : Sent → List Token
-tokens_of Silence = []
-tokens_of (Sends t) = t ∷ []
+abbrev pub tokens_of : Option Token → List Token
+tokens_of None = []
+tokens_of (Some t) = t ∷ []

@@ -6,6 +6,7 @@ use mathlib.Core.Bool.{Bool, true, false, not, ◌||◌, ◌&&◌, or-false, or-
 use mathlib.Core.List.{List, [], ◌∷◌, ◌++◌, append-nil, append_cancel_left}
 use lib.Dec.{eqb}
 use lib.ListN.{length}
+use Rattle.std.specs.Prelude.{Option, None}
 use Rattle.vocabulary.specs.NChars.{above_eep}
 use Rattle.vocabulary.specs.declared.Token.{Token}
 use Rattle.store.specs.Ring.{empty, full}
@@ -20,8 +21,6 @@ use Rattle.link.specs.Hosts.{put_discarded, put_stored, puts, puts_places, takes
 use Rattle.link.specs.declared.LinkState.TheVariants.{ErrorReset}
 use Rattle.link.specs.declared.Event.{Event}
 use Rattle.link.specs.Records.{Marks}
-use Rattle.link.specs.declared.Sent.{Sent}
-use Rattle.link.specs.declared.Sent.TheVariants.{Silence}
 use Rattle.link_laws.specs.Tokens.{n_chars_on, tokens_of}
 use Rattle.link_laws.specs.Calls.{Call, take, reset, put, offer, is_reset, Reply, if_accepted}
 use Rattle.link_laws.specs.NothingLost.{heard_in, fell, eep_if, rx_waits, tx_waits}
@@ -64,7 +63,7 @@ module _ {was : Bool} {got out : Stretches} {taken handed_in : List ℕ} (e : En
   nothing_holds c number time refused =
       rw (refused, and-false (is_reset c), append-nil taken, append-nil handed_in) (same_stretch h)
 
-  event_holds : {c : Call} {heard : List Token} (this : Event) (mid : End) (sent : Sent) (time : Time) (tick_out : Bool) →
+  event_holds : {c : Call} {heard : List Token} (this : Event) (mid : End) (sent : Option Token) (time : Time) (tick_out : Bool) →
       IsEvent e c this heard → Effected this e mid heard (tokens_of sent) →
       After c (done (moved mid (settles this mid)) (settles this mid).moved.discarded [] sent [] time tick_out)
   event_holds this mid sent time tick_out is f =
@@ -72,13 +71,13 @@ module _ {was : Bool} {got out : Stretches} {taken handed_in : List ℕ} (e : En
       (move_holds mid (settles this mid) (settle this mid f.between) (settle_marks this mid f.between)
       (effect_holds e mid f h))
 
-  offer_holds : (v : ℕ) (time : Time) → After (offer v) (done (after_offer e v) 0 [] Silence [] time false)
+  offer_holds : (v : ℕ) (time : Time) → After (offer v) (done (after_offer e v) 0 [] None [] time false)
   unfolding offers with_offer
   offer_holds v time = rw (append-nil taken, append-nil handed_in) (same_stretch h)
 
   module _ (g : Good e) where
     take_holds : (time : Time) → empty e.link.rx ≡ false →
-        After take (done (after_take e) 0 [] Silence (taken_of e ∷ []) time false)
+        After take (done (after_take e) 0 [] None (taken_of e ∷ []) time false)
     unfolding takes with_marks with_rx mark_taken
     take_holds time some =
         let first : rx_waits e ≡ taken_of e ∷ rx_waits (after_take e) =
@@ -96,7 +95,7 @@ module _ {was : Bool} {got out : Stretches} {taken handed_in : List ℕ} (e : En
     abbrev AfterPut : ℕ → Time → Type 0
     AfterPut n time =
         After (put n)
-        (done (after_put e n) (puts (length e.tx) e.link n).discarded (n ∷ []) Silence [] time false)
+        (done (after_put e n) (puts (length e.tx) e.link n).discarded (n ∷ []) None [] time false)
 
     put_holds : (n : ℕ) (time : Time) → above_eep n ≡ false →
         not e.link.marks.discarding && full (length e.tx) e.link.tx ≡ false → AfterPut n time
@@ -120,7 +119,7 @@ module _ {was : Bool} {got out : Stretches} {taken handed_in : List ℕ} (e : En
 
     reset_holds : (time : Time) →
         After reset
-        (done (moved e (resets e.rx e.link)) (resets e.rx e.link).moved.discarded [] Silence [] time false)
+        (done (moved e (resets e.rx e.link)) (resets e.rx e.link).moved.discarded [] None [] time false)
     unfolding resets settled_at emptied cleared with_marks with_tx with_rx mark_discarding mark_sent mark_stored
     reset_holds time =
         let eep : rx_waits (moved e (resets e.rx e.link)) ≡ eep_if e.link.marks.taken =

@@ -4,6 +4,7 @@ use Rattle.std.specs.Prelude.{Option, None, Some}
 use mathlib.Core.Path.{◌≡◌, refl, sym, ap, ◌∙◌}
 use Prim.Native.Nat.{ℕ}
 use lib.Dec.{eqb}
+use Rattle.std.specs.Prelude.{Option, None, Some}
 use Rattle.vocabulary.specs.Choice.{pick}
 use Rattle.vocabulary.specs.Tokens.{kind_of, value_of}
 use Rattle.vocabulary.specs.declared.Token.{Token}
@@ -13,9 +14,6 @@ use Rattle.characters.specs.States.{Report, Nothing, Got, ParityError, EscapeErr
 use Rattle.link.specs.Table.{state_of}
 use Rattle.link.proofs.TableLaws.{state_of_number}
 use Rattle.link.specs.Send.{sent_kind, sent_value, offer_number, offer_value}
-use Rattle.link.specs.Records.{Offer, Absent, Code}
-use Rattle.link.specs.declared.Sent.{Sent}
-use Rattle.link.specs.declared.Sent.TheVariants.{Silence, Sends}
 use Rattle.router_table.specs.Headings.{heading_number, heading_values}
 use Rattle.router_table.specs.declared.Direction.{Direction}
 use Rattle.router_table.specs.declared.Heading.{Heading}
@@ -55,22 +53,22 @@ back_report ParityError = refl
 back_report EscapeError = refl
 back_report Disconnect = refl
 
-abbrev find_sent : ℕ → ℕ → Sent
-find_sent n v = pick (eqb n 0) Silence (Sends (find_token n v))
+abbrev find_sent : ℕ → ℕ → Option Token
+find_sent n v = pick (eqb n 0) None (Some (find_token n v))
 
-back_sent : (s : Sent) → find_sent (sent_kind s) (sent_value s) ≡ s
-back_sent Silence = refl
-back_sent (Sends Null) = refl
-back_sent (Sends Fct) = refl
-back_sent (Sends (NChar n)) = refl
-back_sent (Sends (TimeCode v)) = refl
+back_sent : (s : Option Token) → find_sent (sent_kind s) (sent_value s) ≡ s
+back_sent None = refl
+back_sent (Some Null) = refl
+back_sent (Some Fct) = refl
+back_sent (Some (NChar n)) = refl
+back_sent (Some (TimeCode v)) = refl
 
-abbrev find_offer : ℕ → ℕ → Offer
-find_offer n v = pick (eqb n 0) Absent (Code v)
+abbrev find_offer : ℕ → ℕ → Option ℕ
+find_offer n v = pick (eqb n 0) None (Some v)
 
-back_offer : (o : Offer) → find_offer (offer_number o) (offer_value o) ≡ o
-back_offer Absent = refl
-back_offer (Code v) = refl
+back_offer : (o : Option ℕ) → find_offer (offer_number o) (offer_value o) ≡ o
+back_offer None = refl
+back_offer (Some v) = refl
 
 abbrev find_mode : ℕ → Wanted × ℕ → Mode
 find_mode n v = pick (eqb n 0) Idle (pick (eqb n 1) (Waiting v.0) (pick (eqb n 2) (Routed v.1) Spilling))

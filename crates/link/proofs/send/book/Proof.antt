@@ -11,5 +11,5 @@ book_spec =
     (λ c. search rules)
     (λ c. search rules)
     (λ c κs. search rules)
-    (λ c small l e g. rw c.in-Silence.is e)
-    (λ c small l e g. rw c.in-Sends.is (c.book_token.ensures small l e g)))
+    (λ c small l e g. rw c.in-None.is e)
+    (λ c small l e g. rw c.in-Some.is (c.book_token.ensures small l e g)))

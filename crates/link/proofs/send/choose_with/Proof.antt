@@ -5,24 +5,25 @@ use Prim.Native.Nat.{ℕ}
 use mathlib.Core.Path.{◌≡◌, refl, sym, ap, ◌∙◌}
 use mathlib.Core.Bool.{true, false, false≢true}
 use mathlib.Core.List.{List}
+use Rattle.std.specs.Prelude.{Option, None, Some}
 use Rattle.vocabulary.specs.declared.Token.TheVariants.{TimeCode}
 use Rattle.words.specs.Words.{truth, byte}
 use Rattle.words.proofs.NumberLaws.{byte_back}
-use Rattle.link.specs.Records.{Offer, Absent, Code, Link}
+use Rattle.link.specs.Records.{Link}
 use Rattle.link.specs.Send.{offer_number, offer_value, choice_in_run, choice_with}
 use Rattle.link.specs.LinkWords.{link_words, FitsOffer}
 use Rattle.link.proofs.send.choose_with.Statement.{statement}
 use Rattle.link.proofs.send.choose_with.Tie as tie
 
 module _ (size : ℕ) (tx : List ℕ) (l : Link) where
-  waits : (o : Offer) → FitsOffer o → truth (offer_number o) ≡ true →
+  waits : (o : Option ℕ) → FitsOffer o → truth (offer_number o) ≡ true →
       TimeCode (byte (offer_value o)) ≡ choice_with o size tx l
-  waits Absent fits is = absurd (false≢true is)
-  waits (Code v) fits is = ap TimeCode (byte_back v fits)
+  waits None fits is = absurd (false≢true is)
+  waits (Some v) fits is = ap TimeCode (byte_back v fits)
 
-  none_waits : (o : Offer) → truth (offer_number o) ≡ false → choice_in_run size tx l ≡ choice_with o size tx l
-  none_waits Absent is = refl
-  none_waits (Code v) is = absurd (false≢true (sym is))
+  none_waits : (o : Option ℕ) → truth (offer_number o) ≡ false → choice_in_run size tx l ≡ choice_with o size tx l
+  none_waits None is = refl
+  none_waits (Some v) is = absurd (false≢true (sym is))
 
 pub choose_with_spec : {M : Type 1} → statement M
 unfolding link_words

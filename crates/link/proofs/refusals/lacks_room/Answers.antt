@@ -1,17 +1,12 @@
 -- `link::refusals::lacks_room` meets its contract: each test reads the words of its fields.
 -- Assumes nothing.
-use borrow.Author.Rules.{rules}
-use Prim.Native.Nat.{ℕ, ◌+◌}
-use mathlib.Core.Path.{◌≡◌, refl}
-use mathlib.Core.Bool.{Bool, true, false}
-use native.Mathlib.Omega.{arith}
-use lib.Dec.{leb, ltb}
+use Rattle.std.proofs.Common.{ℕ, ◌+◌, ◌≡◌, Bool, true, false, refl, ltb, arith}
+use lib.Dec.{leb}
 use borrow.Author.Tests.{leb-true, leb-false, lt-ltb, le-ltb}
 use Rattle.words.proofs.NumberLaws.{truth_back}
 use Rattle.store.specs.Ring.{free}
 use Rattle.link.specs.LinkWords.{link_words}
-use Rattle.link.proofs.refusals.lacks_room.Statement.{statement}
-use Rattle.link.proofs.refusals.lacks_room.Tie as tie
+use Rattle.link.proofs.refusals.lacks_room.Goals as goal
 
 at_most : (free given : ℕ) → leb free given ≡ ltb free (given + 1)
 at_most free given = by (leb free given) refl
@@ -20,24 +15,14 @@ at_most free given = by (leb free given) refl
     by true p = let h = leb-true free given p in rw (lt-ltb free (given + 1) (omega arith))
     by false p = let h = leb-false free given p in rw (le-ltb free (given + 1) (omega arith))
 
-pub lacks_room_spec : {M : Type 1} → statement M
+pub returns : goal.returns
 unfolding link_words
-lacks_room_spec =
-    tie.close
-    (tie.spec
-    (λ c. search rules)
-    (λ c κs. search rules)
-    (λ c κs. search rules)
-    (λ c κs. search rules)
-    (λ c. search rules)
-    (λ c κs. search rules)
-    (λ c. λ l e.
+returns c = λ l e.
     rw (
-      c.wide-given.ensures,
       c.truth.ensures,
       c.free_places-free.ensures,
       c.rx_in.ensures.0 l e,
       e,
       truth_back l.marks.stored,
       at_most (free c.args.size l.rx) l.credit.given.0,
-    )))
+    )
