@@ -1,11 +1,11 @@
 // What is still held through a port.
 ghost use Rattle.std.specs.Prelude.{◌≡◌, ◌<◌};
-ghost use Rattle.router_ports.specs.Ports.{mode_at};
+ghost use Rattle.router_ports.specs.Ports.{wants, mode_at};
 ghost use Rattle.router_ports.specs.RouterWords.{router_of};
 ghost use Rattle.router.specs.Held.{awaits, behind, sets_of, held_through};
 ghost use Rattle.router.specs.HeldCalls.{through_port, held_words};
 
-use router_ports::{Mode, PORTS, Words};
+use router_ports::{Mode, PORTS, Wanted, Words};
 
 // How many words are answered to C.
 pub const WORDS: usize = 11;
@@ -13,7 +13,7 @@ pub const WORDS: usize = 11;
 // What a port's input does and how many N-Chars wait there; which input holds its output and how many wait there; which
 // inputs wait for it, and which have N-Chars that no round has moved, bit i for input i; and whether nothing is held
 // through it.
-#[derive(Clone, Copy, Debug, PartialEq, Eq)]
+#[derive(Clone, Copy)]
 pub struct Held {
     pub mode: Mode,
     pub unmoved: usize,
@@ -28,12 +28,12 @@ impl From<Held> for [u32; WORDS] {
     ghost from_gives = { λ held row. row ≡ held_words (through_port held) };
 
     fn from(held: Held) -> [u32; WORDS] {
-        let wanted = held.mode.wanted();
+        let wanted = router_ports::mode_wanted(held.mode);
         [
-            u32::from(held.mode.number()),
+            u32::from(router_ports::mode_number(held.mode)),
             u32::from(wanted.ports),
             u32::from(wanted.high),
-            words::narrow(held.mode.output()),
+            words::narrow(router_ports::mode_output(held.mode)),
             words::narrow(held.unmoved),
             u32::from(held.owner.is_some()),
             words::narrow(held.owner.unwrap_or(0)),
@@ -52,12 +52,19 @@ struct Sets {
     unread: u16,
 }
 
+fn is_wanted(w: Wanted, port: usize) -> bool
+    requires { port < 11 }
+    ensures { result ≡ wants w.ports port }
+{
+    (w.ports >> port) % 2 == 1
+}
+
 fn is_awaited(words: &Words, i: usize, port: usize) -> bool
     requires { port < 11 }
     ensures { result ≡ awaits port (mode_at (router_of words.now) i) }
 {
     match router_ports::mode_at(words, i) {
-        Mode::Waiting(wanted) => wanted.wants(port),
+        Mode::Waiting(wanted) => is_wanted(wanted, port),
         Mode::Idle | Mode::Routed(_) | Mode::Spilling => false,
     }
 }
