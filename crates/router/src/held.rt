@@ -2,7 +2,7 @@
 ghost use Rattle.std.specs.Prelude.{◌≡◌, ◌<◌};
 ghost use Rattle.router_ports.specs.Ports.{wants, mode_at};
 ghost use Rattle.router_ports.specs.RouterWords.{router_of};
-ghost use Rattle.router.specs.Held.{awaits, behind, sets_of, held_through};
+ghost use Rattle.router.specs.Held.{awaits, behind, sets_of, nothing_at_input, nothing_at_output, held_through};
 ghost use Rattle.router.specs.HeldCalls.{through_port, held_words};
 
 use router_ports::{Mode, PORTS, Wanted, Words};
@@ -27,6 +27,7 @@ pub struct Held {
 impl From<Held> for [u32; WORDS] {
     ghost from_gives = { λ held row. row ≡ held_words (through_port held) };
 
+    #[tactic(auto, unfolding(crate::specs::HeldCalls::held_words))]
     fn from(held: Held) -> [u32; WORDS] {
         let wanted = router_ports::mode_wanted(held.mode);
         [
@@ -90,7 +91,20 @@ fn inputs_that(words: &Words, port: usize) -> Sets
     Sets { wanted, unread }
 }
 
+fn nothing_at_input(mode: Mode, unmoved: usize) -> bool
+    ensures { result ≡ nothing_at_input mode unmoved }
+{
+    matches!(mode, Mode::Idle) && unmoved == 0
+}
+
+fn nothing_at_output(owner: Option<usize>, untaken: usize, wanted: u16) -> bool
+    ensures { result ≡ nothing_at_output owner untaken wanted }
+{
+    owner.is_none() && untaken == 0 && wanted == 0
+}
+
 // What is held through a port of the router.
+#[tactic(auto, unfolding(crate::specs::Held::held_through, crate::specs::Held::nothing_held, crate::specs::Held::sets_of))]
 pub(crate) fn through(words: &Words, port: usize) -> Held
     requires { port < 11 }
     ensures { through_port result ≡ held_through (router_of words.now) port }
@@ -100,8 +114,7 @@ pub(crate) fn through(words: &Words, port: usize) -> Held
     let owner = router_ports::output_at(words, port).owner;
     let untaken = router_ports::store_at(words, PORTS + port).len;
     let Sets { wanted, unread } = inputs_that(words, port);
-    let input_is_free = matches!(mode, Mode::Idle) && unmoved == 0;
-    let output_is_free = owner.is_none() && untaken == 0 && wanted == 0;
+    let nothing = nothing_at_input(mode, unmoved) && nothing_at_output(owner, untaken, wanted);
     Held {
         mode,
         unmoved,
@@ -109,6 +122,6 @@ pub(crate) fn through(words: &Words, port: usize) -> Held
         untaken,
         wanted,
         unread,
-        nothing: input_is_free && output_is_free,
+        nothing,
     }
 }

@@ -47,6 +47,7 @@ fn lent_refusal(words: &Words, area: &[u16]) -> Result<(), Refusal>
     refuse(router_ports::bad_stores(words, size), Refusal::State)
 }
 
+#[tactic(auto, using(crate::proofs::RefusalLaws::lent_first))]
 fn put_refusal(words: &Words, area: &[u16], port: usize, n: u16) -> Result<(), Refusal>
     ensures { refusal_in result ≡ state_first words.now (put_refusal (machine (router_of words.now) area.now) port n) }
 {
@@ -57,6 +58,7 @@ fn put_refusal(words: &Words, area: &[u16], port: usize, n: u16) -> Result<(), R
 }
 
 // One N-Char to a port's input store: `put(&mut words, &mut area, 1, 65)`.
+#[tactic(auto, using(crate::proofs::InPlaceLaws::put_done, crate::proofs::InPlaceLaws::put_refused))]
 pub fn put(words: &mut Words, area: &mut [u16], port: u32, nchar: u32) -> Result<(), Refusal>
     ensures { record { refusal = refusal_in result; state = words.new; area = area.new; out = [] } ≡ put_left words.old area.old port nchar }
 {
@@ -67,6 +69,7 @@ pub fn put(words: &mut Words, area: &mut [u16], port: u32, nchar: u32) -> Result
     Ok(())
 }
 
+#[tactic(auto, using(crate::proofs::RefusalLaws::lent_first))]
 fn take_refusal(words: &Words, area: &[u16], port: usize) -> Result<(), Refusal>
     ensures { refusal_in result ≡ state_first words.now (take_refusal (machine (router_of words.now) area.now) port) }
 {
@@ -76,6 +79,7 @@ fn take_refusal(words: &Words, area: &[u16], port: usize) -> Result<(), Refusal>
 }
 
 // The front N-Char of a port's output store: `take(&mut words, &area, 3)`.
+#[tactic(auto, using(crate::proofs::InPlaceLaws::take_done, crate::proofs::InPlaceLaws::take_refused))]
 pub fn take(words: &mut Words, area: &[u16], port: u32) -> Result<u16, Refusal>
     ensures { record { refusal = refusal_in result; state = words.new; area = area.now; out = answer_in 0 result ∷ [] } ≡ take_left words.old area.now port }
 {
@@ -86,6 +90,7 @@ pub fn take(words: &mut Words, area: &[u16], port: u32) -> Result<u16, Refusal>
     Ok(taken)
 }
 
+#[tactic(auto, using(crate::proofs::RefusalLaws::lent_first))]
 fn run_refusal(words: &Words, area: &[u16], limit: u16) -> Result<(), Refusal>
     ensures { refusal_in result ≡ state_first words.now (run_refusal (machine (router_of words.now) area.now) limit) }
 {
@@ -94,12 +99,8 @@ fn run_refusal(words: &Words, area: &[u16], limit: u16) -> Result<(), Refusal>
 }
 
 // Up to `limit` rounds, through the first that changes nothing: `run(&mut words, &mut area, &table, 10)`.
-pub fn run(
-    words: &mut Words,
-    area: &mut [u16],
-    table: &Table,
-    limit: u32,
-) -> Result<Ran, Refusal>
+#[tactic(auto, using(crate::proofs::InPlaceLaws::run_done, crate::proofs::InPlaceLaws::run_refused))]
+pub fn run(words: &mut Words, area: &mut [u16], table: &Table, limit: u32) -> Result<Ran, Refusal>
     ensures { record { refusal = refusal_in result; state = words.new; area = area.new; out = ran_words (answer_in none_ran result) } ≡ run_left words.old area.old table.now limit }
 {
     let most = words::fitted(limit);
@@ -120,6 +121,7 @@ fn row_refusal(words: &Words, row: usize) -> Result<(), Refusal>
 }
 
 // A row written: `write_row(&words, &mut table, 39, 4)` has address 39 request port 2.
+#[tactic(auto, using(crate::proofs::InPlaceLaws::write_done, crate::proofs::InPlaceLaws::write_refused))]
 pub fn write_row(words: &Words, table: &mut Table, row: u32, value: u32) -> Result<(), Refusal>
     ensures { (refusal_in result ≡ row_refused words.now row) × (table.new ≡ table_left words.now table.old row value) }
 {
@@ -130,6 +132,7 @@ pub fn write_row(words: &Words, table: &mut Table, row: u32, value: u32) -> Resu
 }
 
 // A row's value: `read_row(&words, &table, 39)`.
+#[tactic(auto, using(crate::proofs::InPlaceLaws::read_done, crate::proofs::InPlaceLaws::read_refused))]
 pub fn read_row(words: &Words, table: &Table, row: u32) -> Result<u32, Refusal>
     ensures { (refusal_in result ≡ (row_left words.now table.now row).refusal) × (answer_in 0 result ≡ (row_left words.now table.now row).value) }
 {
@@ -146,6 +149,7 @@ fn held_refusal(words: &Words, port: usize) -> Result<(), Refusal>
 }
 
 // Who still holds something through a port, as a console asks at logout: `still_held(&words, 1)`.
+#[tactic(auto, using(crate::proofs::InPlaceLaws::held_done, crate::proofs::InPlaceLaws::held_refused_lem, crate::proofs::InPlaceLaws::asked_told, crate::proofs::RefusalLaws::held_accepts))]
 pub fn still_held(words: &Words, port: u32) -> Result<Held, Refusal>
     ensures told { answered result ≡ held_told words.now port }
     ensures in_words { asked (answered result) ≡ held_left words.now port }
