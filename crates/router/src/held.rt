@@ -1,11 +1,11 @@
 // What is still held through a port.
 ghost use Rattle.std.specs.Prelude.{◌≡◌, ◌<◌};
-ghost use Rattle.router_ports.specs.Ports.{wants, mode_at};
+ghost use Rattle.router_ports.specs.Ports.{mode_at};
 ghost use Rattle.router_ports.specs.RouterWords.{router_of};
 ghost use Rattle.router.specs.Held.{awaits, behind, sets_of, nothing_at_input, nothing_at_output, held_through};
 ghost use Rattle.router.specs.HeldCalls.{through_port, held_words};
 
-use router_ports::{Mode, PORTS, Wanted, Words};
+use router_ports::{Mode, PORTS, Words};
 
 // How many words are answered to C.
 pub const WORDS: usize = 11;
@@ -53,21 +53,10 @@ struct Sets {
     unread: u16,
 }
 
-fn is_wanted(w: Wanted, port: usize) -> bool
-    requires { port < 11 }
-    ensures { result ≡ wants w.ports port }
-{
-    (w.ports >> port) % 2 == 1
-}
-
 fn is_awaited(words: &Words, i: usize, port: usize) -> bool
-    requires { port < 11 }
     ensures { result ≡ awaits port (mode_at (router_of words.now) i) }
 {
-    match router_ports::mode_at(words, i) {
-        Mode::Waiting(wanted) => is_wanted(wanted, port),
-        Mode::Idle | Mode::Routed(_) | Mode::Spilling => false,
-    }
+    matches!(router_ports::mode_at(words, i), Mode::Waiting(wanted) if wanted.wants(port))
 }
 
 fn one_more(set: u16, member: bool) -> u16
@@ -79,7 +68,6 @@ fn one_more(set: u16, member: bool) -> u16
 
 // From the last input down, each becomes the lowest bit of both sets.
 fn inputs_that(words: &Words, port: usize) -> Sets
-    requires { port < 11 }
     ensures { result ≡ sets_of (router_of words.now) port }
 {
     let mut wanted = 0;
