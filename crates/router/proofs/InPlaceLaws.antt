@@ -1,15 +1,21 @@
 -- A call on the words of a router leaves the words of what it leaves of the router, and a refused one leaves everything.
 -- Assumes nothing.
-use mathlib.Core.Path.{◌≡◌, refl, ap, ◌∙◌}
+use mathlib.Core.Path.{◌≡◌, refl, sym, ap, ◌∙◌}
 use mathlib.Core.Bool.{Bool, true, false}
 use mathlib.Core.List.{List, [], ◌∷◌}
 use Prim.Native.Nat.{ℕ, ◌+◌, ◌<◌}
 use native.Mathlib.Omega.{arith}
+use lib.Dec.{eqb}
 use lib.ListN.{length, replicate}
 use borrow.Author.Tests.{eq-eqb, ne_eqb}
 use Rattle.vocabulary.specs.Choice.{pick}
+use Rattle.vocabulary.specs.declared.Refusal.{Refusal}
+use Rattle.vocabulary.specs.Refusals.{number}
+use Rattle.vocabulary.proofs.RefusalLaws.{not_none}
 use Rattle.store.specs.Changes.{put_store, without_first}
+use Rattle.words.specs.Arguments.{fitted}
 use Rattle.words.proofs.SameLaws.{same_is}
+use Rattle.router_table.specs.Rows.{row_at, with_row}
 use Rattle.router_ports.specs.Ports.{store_at}
 use Rattle.router_ports.specs.Places.{Machine, machine, size_in, places_at, front_at, put_at, without_front, with_behind}
 use Rattle.router_ports.proofs.StateLaws.{Shape}
@@ -24,13 +30,15 @@ use Rattle.router_rounds.specs.Rounds.{begun, rounds}
 use Rattle.router_rounds.specs.InWords.{Words, kept, in_words, saved_of, SavedRun}
 use Rattle.router_rounds.specs.Exact.{exact}
 use Rattle.router_rounds.proofs.WordsProof.{runs_in_words}
-use Rattle.router.proofs.RefusalLaws.{lent_accepts}
 use Rattle.router.specs.Refusals.{put_refusal, take_refusal, run_refusal, row_refusal, held_refusal}
-use Rattle.router.specs.Calls.{puts, took_one, takes, told, runs, reads_row}
-use Rattle.router.specs.RouterCalls.{RouterLeft, no_router, put, took, ran, state_first, row_refused, row_left}
+use Rattle.router.specs.Calls.{puts, took_one, takes, told, runs, writes_row, reads_row}
+use Rattle.router.specs.RouterCalls.{RouterLeft, no_router, put, put_left, took, take_left, ran, run_left}
+use Rattle.router.specs.RouterCalls.{state_first, row_refused, table_left, row_left}
 use Rattle.router.specs.Records.{RowRead}
-use Rattle.router.specs.Held.{held_refused, still_held}
-use Rattle.router.specs.HeldCalls.{HeldLeft, held_words, asked, held_left}
+use Rattle.router.specs.Held.{held_through, held_refused, still_held}
+use Rattle.router.specs.HeldCalls.{held_words, asked, held_told, held_left}
+use Rattle.router.proofs.RefusalLaws.{lent_accepts, port_below, router_first}
+use Rattle.router.proofs.StayLaws.{table_stays}
 
 abbrev pub left_of : Tally Words → RouterLeft
 left_of u =
@@ -56,16 +64,6 @@ saved_run x table limit shape accepted =
     let ok = lent_accepts x _ accepted in
     runs_in_words (length x.area) (size_small x.area ok.area) table x
     (accepted_sound x.router x.area shape ok.ports ok.stores) limit
-
--- a refused call: the words keep no router, or its own refusal is told
-module _ {A : Type 0} (words : List ℕ) (number later : ℕ) (e : number ≡ state_first words later) where
-  either_refused : (answer : ℕ → A) (accepted : A) → (is_router words ≡ true → number ≡ later → answer number ≡ accepted) →
-      answer number ≡ pick (is_router words) accepted (answer 1)
-  either_refused answer accepted told = go (is_router words) refl
-    where
-      go : (b : Bool) → is_router words ≡ b → answer number ≡ pick b accepted (answer 1)
-      go true is = told is (e ∙ ap (λ (b : Bool). pick b later 1) is)
-      go false is = ap answer (e ∙ ap (λ (b : Bool). pick b later 1) is)
 
 pub loaded_shape : (words : List ℕ) → Shape (router_of words)
 unfolding router_of
@@ -104,78 +102,152 @@ module _ (words area : List ℕ) (is : is_router words ≡ true) where
         let st = without_first (places_at area k) (store_at (router_of words) k) in
         ap (λ (w : List ℕ). with_store_in w k st) own ∙ store_saved (router_of words) (loaded_shape words) k st h
 
-  pub put_in_words : (port n : ℕ) → port < 11 → put_refusal x port n ≡ 0 →
+-- What a call that is not refused leaves.
+
+module _ (words area : List ℕ) where
+  abbrev lent : Machine
+  lent = machine (router_of words) area
+
+  pub put_done : (port n : ℕ) → 0 ≡ state_first words (put_refusal lent port (fitted n)) →
       record {
         refusal = 0;
-        state = with_behind_in words area port n;
-        area = put_at area port (store_at (router_of words) port) n;
+        state = with_behind_in words area port (fitted n);
+        area = put_at area port (store_at (router_of words) port) (fitted n);
         out = [];
       }
-      ≡ put (puts x port n)
-  unfolding put puts
-  put_in_words port n h accepted =
-      rw (eq-eqb _ _ accepted, behind_in_words port (omega (arith, h)) n, area_behind x port n)
+      ≡ put_left words area port n
+  unfolding put_left put puts
+  put_done port n e =
+      let passed = router_first (is_router words) (put_refusal lent port (fitted n)) e in
+      let below = port_below lent port _ passed.1 in
+      rw (
+        passed.0,
+        eq-eqb _ _ passed.1,
+        behind_in_words words area passed.0 port (omega (arith, below)) (fitted n),
+        area_behind lent port (fitted n),
+      )
 
-  pub take_in_words : (port : ℕ) → port < 11 → take_refusal x port ≡ 0 →
+  pub take_done : (port : ℕ) → 0 ≡ state_first words (take_refusal lent port) →
       record {
         refusal = 0;
         state = without_front_in words area (11 + port);
         area = area;
-        out = front_at x (11 + port) ∷ [];
+        out = front_at lent (11 + port) ∷ [];
       }
-      ≡ took (takes x port)
-  unfolding took takes took_one
-  take_in_words port h accepted =
-      rw (eq-eqb _ _ accepted, without_in_words (11 + port) (omega (arith, h)), area_without x (11 + port))
+      ≡ take_left words area port
+  unfolding take_left took takes took_one
+  take_done port e =
+      let passed = router_first (is_router words) (take_refusal lent port) e in
+      let below = port_below lent port _ passed.1 in
+      rw (
+        passed.0,
+        eq-eqb _ _ passed.1,
+        without_in_words words area passed.0 (11 + port) (omega (arith, below)),
+        area_without lent (11 + port),
+      )
 
-module _ (words area : List ℕ) (number : ℕ) (some : number ≡ 0 → ⊥) where
-  abbrev lent : Machine
-  lent = machine (router_of words) area
+  pub run_done : (table : List ℕ) (limit : ℕ) → 0 ≡ state_first words (run_refusal lent (fitted limit)) →
+      left_of (rounds in_words table (fitted limit) (begun (kept words area))) ≡ run_left words area table limit
+  unfolding run_left
+  run_done table limit e =
+      let passed = router_first (is_router words) (run_refusal lent (fitted limit)) e in
+      ran_in_words words area passed.0 table (fitted limit) passed.1 ∙ sym (rw passed.0)
+
+-- What a refused call leaves: the words keep no router, or its own refusal is told.
+
+module _ (words : List ℕ) (r : Refusal) where
+  either_refused : {A : Type 0} (later : ℕ) (answer : ℕ → A) (accepted : A) → number r ≡ state_first words later →
+      (is_router words ≡ true → number r ≡ later → eqb later 0 ≡ false → answer later ≡ accepted) →
+      answer (number r) ≡ pick (is_router words) accepted (answer 1)
+  either_refused later answer accepted e told = go (is_router words) refl e
+    where
+      go : (b : Bool) → is_router words ≡ b → number r ≡ pick b later 1 → answer (number r) ≡ pick b accepted (answer 1)
+      go true is same = ap answer same ∙ told is same (ne_eqb later 0 (λ none. not_none r (same ∙ none)))
+      go false is same = ap answer same
 
   own_words : is_router words ≡ true → words ≡ router_words (router_of words)
   own_words is = same_is words (router_words (router_of words)) is
 
-  abbrev stays : List ℕ → ℕ → RouterLeft
-  stays zeros n = record { refusal = n; state = words; area = area; out = zeros }
+  module _ (area : List ℕ) where
+    abbrev stays : List ℕ → ℕ → RouterLeft
+    stays zeros n = record { refusal = n; state = words; area = area; out = zeros }
 
-  pub put_refused_lem : (port n : ℕ) → number ≡ state_first words (put_refusal lent port n) →
-      stays [] number ≡ pick (is_router words) (put (puts lent port n)) (no_router words area [])
-  unfolding put puts no_router
-  put_refused_lem port n e =
-      either_refused words number (put_refusal lent port n) e (stays []) (put (puts lent port n))
-      (λ is told. rw (← told, ne_eqb number 0 some, ← own_words is))
+    pub put_refused : (port n : ℕ) → number r ≡ state_first words (put_refusal (lent words area) port (fitted n)) →
+        stays [] (number r) ≡ put_left words area port n
+    unfolding put_left put puts no_router
+    put_refused port n e =
+        either_refused (put_refusal (lent words area) port (fitted n)) (stays []) (put (puts (lent words area) port (fitted n))) e
+        (λ is told nonzero. rw (nonzero, ← own_words is))
 
-  pub take_refused_lem : (port : ℕ) → number ≡ state_first words (take_refusal lent port) →
-      stays (0 ∷ []) number ≡ pick (is_router words) (took (takes lent port)) (no_router words area (0 ∷ []))
-  unfolding took takes no_router
-  take_refused_lem port e =
-      either_refused words number (take_refusal lent port) e (stays (0 ∷ [])) (took (takes lent port))
-      (λ is told. rw (← told, ne_eqb number 0 some, ← own_words is))
+    pub take_refused : (port : ℕ) → number r ≡ state_first words (take_refusal (lent words area) port) →
+        stays (0 ∷ []) (number r) ≡ take_left words area port
+    unfolding take_left took takes no_router
+    take_refused port e =
+        either_refused (take_refusal (lent words area) port) (stays (0 ∷ [])) (took (takes (lent words area) port)) e
+        (λ is told nonzero. rw (nonzero, ← own_words is))
 
-  pub run_refused : (table : List ℕ) (limit : ℕ) → number ≡ state_first words (run_refusal lent limit) →
-      stays (0 ∷ 0 ∷ 0 ∷ []) number
-      ≡ pick (is_router words) (ran (runs lent table limit)) (no_router words area (0 ∷ 0 ∷ 0 ∷ []))
-  unfolding ran runs no_router
-  run_refused table limit e =
-      either_refused words number (run_refusal lent limit) e (stays (0 ∷ 0 ∷ 0 ∷ [])) (ran (runs lent table limit))
-      (λ is told. rw (← told, ne_eqb number 0 some, ← own_words is))
+    pub run_refused : (table : List ℕ) (limit : ℕ) →
+        number r ≡ state_first words (run_refusal (lent words area) (fitted limit)) →
+        stays (0 ∷ 0 ∷ 0 ∷ []) (number r) ≡ run_left words area table limit
+    unfolding run_left ran runs no_router
+    run_refused table limit e =
+        either_refused (run_refusal (lent words area) (fitted limit)) (stays (0 ∷ 0 ∷ 0 ∷ []))
+        (ran (runs (lent words area) table (fitted limit))) e
+        (λ is told nonzero. rw (nonzero, ← own_words is))
 
-module _ (words : List ℕ) (number : ℕ) (some : number ≡ 0 → ⊥) where
+  -- rows
+
   abbrev no_row : ℕ → RowRead
   no_row n = record { refusal = n; value = 0 }
 
-  pub row_refused_lem : (table : List ℕ) (row : ℕ) → number ≡ row_refused words row → no_row number ≡ row_left words table row
+  pub read_refused : (table : List ℕ) (row : ℕ) → number r ≡ row_refused words row →
+      no_row (number r) ≡ row_left words table row
   unfolding row_left reads_row
-  row_refused_lem table row e =
-      either_refused words number (row_refusal (router_of words) row) e no_row (reads_row (router_of words) table row)
-      (λ is told. rw (← told, ne_eqb number 0 some))
+  read_refused table row e =
+      either_refused (row_refusal (router_of words) row) no_row (reads_row (router_of words) table row) e
+      (λ is told nonzero. rw nonzero)
 
-  abbrev none_held : ℕ → HeldLeft
-  none_held n = record { refusal = n; out = replicate 11 0 }
+  pub write_refused : (table : List ℕ) (row value : ℕ) → number r ≡ row_refused words row →
+      table_left words table row value ≡ table
+  write_refused table row value e = table_stays words table row value (λ none. not_none r (e ∙ none))
 
-  pub held_refused_lem : (port : ℕ) → number ≡ state_first words (held_refusal (router_of words) port) →
-      none_held number ≡ held_left words port
-  unfolding held_left asked still_held held_refused held_words
+  -- what is still held
+
+  pub held_refused_lem : (port : ℕ) → number r ≡ state_first words (held_refusal (router_of words) port) →
+      held_refused (number r) ≡ held_told words port
+  unfolding held_told still_held
   held_refused_lem port e =
-      either_refused words number (held_refusal (router_of words) port) e none_held (asked (still_held (router_of words) port))
-      (λ is told. rw (← told, ne_eqb number 0 some))
+      either_refused (held_refusal (router_of words) port) held_refused (still_held (router_of words) port) e
+      (λ is told nonzero. rw nonzero)
+
+pub read_done : (words table : List ℕ) (row : ℕ) → 0 ≡ row_refused words row →
+    record { refusal = 0; value = row_at table row } ≡ row_left words table row
+unfolding row_left reads_row
+read_done words table row e =
+    let passed = router_first (is_router words) (row_refusal (router_of words) row) e in
+    rw (passed.0, eq-eqb _ _ passed.1)
+
+pub write_done : (words table : List ℕ) (row value : ℕ) → 0 ≡ row_refused words row →
+    with_row table row value ≡ table_left words table row value
+unfolding table_left writes_row
+write_done words table row value e =
+    let passed = router_first (is_router words) (row_refusal (router_of words) row) e in
+    rw (passed.0, eq-eqb _ _ passed.1)
+
+pub held_done : (words : List ℕ) (port : ℕ) → 0 ≡ state_first words (held_refusal (router_of words) port) →
+    held_through (router_of words) port ≡ held_told words port
+unfolding held_told still_held
+held_done words port e =
+    let passed = router_first (is_router words) (held_refusal (router_of words) port) e in
+    rw (passed.0, eq-eqb _ _ passed.1)
+
+-- the words of what is told are the words that are left
+pub asked_told : (words : List ℕ) (port : ℕ) → asked (held_told words port) ≡ held_left words port
+unfolding held_told held_left asked held_refused held_words
+asked_told words port = go (is_router words)
+  where
+    go : (b : Bool) →
+        asked (pick b (still_held (router_of words) port) (held_refused 1))
+        ≡ pick b (asked (still_held (router_of words) port)) (record { refusal = 1; out = replicate 11 0 })
+    go true = refl
+    go false = refl

@@ -1,7 +1,16 @@
 -- What calls on the router answer that is more than a refusal.
 -- Assumes nothing.
-use Rattle.std.specs.Prelude.{ℕ, Bool, Option}
+use Rattle.std.specs.Prelude.{ℕ, Bool, List, [], ◌∷◌, Option}
 use Rattle.router_ports.specs.declared.Mode.{Mode}
+use Rattle.router.specs.declared.Ran.{Ran}
+
+-- what a run tells, in the order in which it is told
+abbrev pub ran_words : Ran → List ℕ
+ran_words a = a.rounds ∷ a.moved ∷ a.errors ∷ []
+
+-- "other answers are zero"
+abbrev pub none_ran : Ran
+none_ran = record { rounds = 0; moved = 0; errors = 0 }
 
 pub record RowRead : Type 0 where
   pub refusal : ℕ

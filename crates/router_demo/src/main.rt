@@ -4,170 +4,150 @@
 use router_ports::{PORTS, STORES, WORDS, Words};
 use router_table::{ROWS, Table};
 use std::io;
+use vocabulary::Refusal;
 
 // The smallest stores that a router may have.
 const PLACES: usize = 9;
 
 const AREA: usize = STORES * PLACES;
 
-// One packet of three N-Chars to an input.
-fn put_three(words: &mut Words, area: &mut [u16], port: u32, a: u32, b: u32, c: u32) {
-    router::put(words, area, port, a);
-    router::put(words, area, port, b);
-    router::put(words, area, port, c);
+// Why the program ends early: a call is refused, or a line cannot be written.
+#[derive(Debug, Drop)]
+enum Failure {
+    Refused(Refusal),
+    Unwritten(io::Error),
 }
 
-fn tell(rt: &impl Print, name: &str, told: [u32; 3]) -> io::Result<()> {
-    println!(rt;
-        "{name}: rounds {} moved {} errors {}",
-        told[0], told[1], told[2]
-    )
-}
-
-fn write_name(rt: &impl Print, port: usize) -> io::Result<()> {
-    print!(rt; "  output {port}:")
-}
-
-fn write_taken(rt: &impl Print, port: usize, k: usize, n: u32) -> io::Result<()> {
-    if k == 0 {
-        write_name(rt, port)?;
+impl From<Refusal> for Failure {
+    fn from(refusal: Refusal) -> Failure {
+        Failure::Refused(refusal)
     }
-    print!(rt; " {n}")
 }
 
-fn write_end(rt: &impl Print, k: usize) -> io::Result<()> {
-    if 0 < k {
-        println!(rt)?;
+impl From<io::Error> for Failure {
+    fn from(error: io::Error) -> Failure {
+        Failure::Unwritten(error)
     }
-    Ok(())
 }
 
-// Takes what an output holds, and writes it in a line.
-fn show_port(rt: &impl Print, words: &mut Words, area: &[u16], port: usize) -> io::Result<()> {
-    for k in 0..PLACES {
-        let mut taken = [0; 1];
-        let refusal = router::take(words, area, words::narrow(port), &mut taken);
-        if refusal == 0 {
-            write_taken(rt, port, k, taken[0])?;
-        } else {
-            return write_end(rt, k);
+// A router with its stores and its table, fresh at first.
+struct Bench {
+    words: Words,
+    area: [u16; AREA],
+    table: Table,
+}
+
+impl Bench {
+    fn new() -> Bench {
+        let mut bench = Bench {
+            words: [0; WORDS],
+            area: [0; AREA],
+            table: [0; ROWS],
+        };
+        router::fresh(&mut bench.words);
+        router_table::fresh(&mut bench.table);
+        bench
+    }
+
+    fn write_row(&mut self, row: u32, value: u32) -> Result<(), Refusal> {
+        router::write_row(&self.words, &mut self.table, row, value)
+    }
+
+    // N-Chars to an input, one after the other.
+    fn put_all(&mut self, port: u32, nchars: &[u32]) -> Result<(), Refusal> {
+        for nchar in nchars {
+            router::put(&mut self.words, &mut self.area, port, *nchar)?;
         }
+        Ok(())
     }
-    write_end(rt, PLACES)
-}
 
-// Of a copy: the router keeps what its outputs hold.
-fn show(rt: &impl Print, state: Words, area: &[u16]) -> io::Result<()> {
-    let mut copy = state;
-    for p in 0..PORTS {
-        show_port(rt, &mut copy, area, p)?;
+    // Takes what an output of a copy of the router holds, and writes it in a line; none where it holds nothing.
+    fn show_output(&self, rt: &impl Print, port: u32) -> io::Result<()> {
+        let mut copy = self.words;
+        let Ok(first) = router::take(&mut copy, &self.area, port) else {
+            return Ok(());
+        };
+        print!(rt; "  output {port}: {first}")?;
+        for _ in 1..PLACES {
+            if let Ok(nchar) = router::take(&mut copy, &self.area, port) {
+                print!(rt; " {nchar}")?;
+            }
+        }
+        println!(rt)
     }
-    Ok(())
+
+    fn run(&mut self, rt: &impl Print, name: &str, limit: u32) -> Result<(), Failure> {
+        let ran = router::run(&mut self.words, &mut self.area, &self.table, limit)?;
+        println!(rt;
+            "{name}: rounds {} moved {} errors {}",
+            ran.rounds, ran.moved, ran.errors
+        )?;
+        for port in 0..PORTS {
+            self.show_output(rt, words::narrow(port))?;
+        }
+        Ok(())
+    }
 }
 
-fn run_and_show(
-    rt: &impl Print,
-    name: &str,
-    words: &mut Words,
-    area: &mut [u16],
-    table: &Table,
-    limit: u32,
-) -> io::Result<()> {
-    let mut told = [0; 3];
-    router::run(words, area, table, limit, &mut told);
-    tell(rt, name, told)?;
-    show(rt, *words, area)
+fn routed(rt: &impl Print) -> Result<(), Failure> {
+    let mut bench = Bench::new();
+    bench.put_all(1, &[3, 65, 256])?;
+    bench.run(rt, "routed", 10)
 }
 
-fn routed(rt: &impl Print) -> io::Result<()> {
-    let mut area = [0u16; AREA];
-    let mut table = [0; ROWS];
-    let mut words = [0; WORDS];
-    router_table::fresh(&mut table);
-    router::fresh(&mut words);
-    put_three(&mut words, &mut area, 1, 3, 65, 256);
-    run_and_show(rt, "routed", &mut words, &mut area, &table, 10)
-}
-
-fn astray(rt: &impl Print) -> io::Result<()> {
-    let mut area = [0u16; AREA];
-    let mut table = [0; ROWS];
-    let mut words = [0; WORDS];
-    router_table::fresh(&mut table);
-    router::fresh(&mut words);
-    router::put(&mut words, &mut area, 1, 11);
-    router::put(&mut words, &mut area, 1, 256);
-    run_and_show(rt, "address error", &mut words, &mut area, &table, 10)
+fn astray(rt: &impl Print) -> Result<(), Failure> {
+    let mut bench = Bench::new();
+    bench.put_all(1, &[11, 256])?;
+    bench.run(rt, "address error", 10)
 }
 
 // Row 40 requests ports 2 and 4 and keeps the header: the lower free port first.
-fn group(rt: &impl Print) -> io::Result<()> {
-    let mut area = [0u16; AREA];
-    let mut table = [0; ROWS];
-    let mut words = [0; WORDS];
-    router_table::fresh(&mut table);
-    router::fresh(&mut words);
-    router::write_row(&words, &mut table, 40, 0x14);
-    put_three(&mut words, &mut area, 1, 40, 66, 256);
-    put_three(&mut words, &mut area, 2, 40, 67, 256);
-    run_and_show(rt, "group", &mut words, &mut area, &table, 10)
+fn group(rt: &impl Print) -> Result<(), Failure> {
+    let mut bench = Bench::new();
+    bench.write_row(40, 0x14)?;
+    bench.put_all(1, &[40, 66, 256])?;
+    bench.put_all(2, &[40, 67, 256])?;
+    bench.run(rt, "group", 10)
 }
 
-fn itself(rt: &impl Print) -> io::Result<()> {
-    let mut area = [0u16; AREA];
-    let mut table = [0; ROWS];
-    let mut words = [0; WORDS];
-    router_table::fresh(&mut table);
-    router::fresh(&mut words);
-    put_three(&mut words, &mut area, 5, 5, 68, 257);
-    run_and_show(rt, "to itself", &mut words, &mut area, &table, 10)
+fn itself(rt: &impl Print) -> Result<(), Failure> {
+    let mut bench = Bench::new();
+    bench.put_all(5, &[5, 68, 257])?;
+    bench.run(rt, "to itself", 10)
 }
 
 // A packet to an invalid row is spilt through its end, and the next goes on.
-fn spilt(rt: &impl Print) -> io::Result<()> {
-    let mut area = [0u16; AREA];
-    let mut table = [0; ROWS];
-    let mut words = [0; WORDS];
-    router_table::fresh(&mut table);
-    router::fresh(&mut words);
-    put_three(&mut words, &mut area, 2, 200, 1, 256);
-    put_three(&mut words, &mut area, 2, 7, 69, 256);
-    run_and_show(rt, "spilt", &mut words, &mut area, &table, 20)
+fn spilt(rt: &impl Print) -> Result<(), Failure> {
+    let mut bench = Bench::new();
+    bench.put_all(2, &[200, 1, 256, 7, 69, 256])?;
+    bench.run(rt, "spilt", 20)
 }
 
 // Input 2 waits for port 3 by row 50; that the row then requests port 4 does not change what it wants.
-fn rewritten(rt: &impl Print) -> io::Result<()> {
-    let mut area = [0u16; AREA];
-    let mut table = [0; ROWS];
-    let mut words = [0; WORDS];
-    router_table::fresh(&mut table);
-    router::fresh(&mut words);
-    router::write_row(&words, &mut table, 50, 0x20000008);
-    put_three(&mut words, &mut area, 1, 3, 70, 71);
-    put_three(&mut words, &mut area, 2, 50, 72, 256);
-    run_and_show(rt, "held", &mut words, &mut area, &table, 10)?;
-    router::write_row(&words, &mut table, 50, 0x20000010);
-    router::put(&mut words, &mut area, 1, 256);
-    run_and_show(rt, "rewritten", &mut words, &mut area, &table, 10)
+fn rewritten(rt: &impl Print) -> Result<(), Failure> {
+    let mut bench = Bench::new();
+    bench.write_row(50, 0x20000008)?;
+    bench.put_all(1, &[3, 70, 71])?;
+    bench.put_all(2, &[50, 72, 256])?;
+    bench.run(rt, "held", 10)?;
+    bench.write_row(50, 0x20000010)?;
+    bench.put_all(1, &[256])?;
+    bench.run(rt, "rewritten", 10)
 }
 
 // Rows 60 and 61 request port 6, at low and at high priority: inputs 1 and 2 at low, 3 and 4 at high.
-fn contention(rt: &impl Print) -> io::Result<()> {
-    let mut area = [0u16; AREA];
-    let mut table = [0; ROWS];
-    let mut words = [0; WORDS];
-    router_table::fresh(&mut table);
-    router::fresh(&mut words);
-    router::write_row(&words, &mut table, 60, 0x20000040);
-    router::write_row(&words, &mut table, 61, 0x60000040);
-    put_three(&mut words, &mut area, 1, 60, 81, 256);
-    put_three(&mut words, &mut area, 2, 60, 82, 256);
-    put_three(&mut words, &mut area, 3, 61, 83, 256);
-    put_three(&mut words, &mut area, 4, 61, 84, 256);
-    run_and_show(rt, "contention", &mut words, &mut area, &table, 30)
+fn contention(rt: &impl Print) -> Result<(), Failure> {
+    let mut bench = Bench::new();
+    bench.write_row(60, 0x20000040)?;
+    bench.write_row(61, 0x60000040)?;
+    bench.put_all(1, &[60, 81, 256])?;
+    bench.put_all(2, &[60, 82, 256])?;
+    bench.put_all(3, &[61, 83, 256])?;
+    bench.put_all(4, &[61, 84, 256])?;
+    bench.run(rt, "contention", 30)
 }
 
-fn main(rt: HostRuntime) -> io::Result<()> {
+fn main(rt: HostRuntime) -> Result<(), Failure> {
     routed(&rt)?;
     astray(&rt)?;
     group(&rt)?;

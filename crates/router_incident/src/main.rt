@@ -2,206 +2,195 @@
 // port 3. It writes what each run told, what is still held, and what output 3 holds.
 #![tactic(auto)]
 
-use router::held;
-use router_ports::{PORTS, STORES, WORDS, Words};
+use router_ports::{Mode, PORTS, STORES, WORDS, Words};
 use router_table::{ROWS, Table};
+use std::fmt;
 use std::io;
+use vocabulary::Refusal;
 
 // The smallest stores that a router may have.
 const PLACES: usize = 9;
 
 const AREA: usize = STORES * PLACES;
 
-fn say(rt: &impl Print, text: &str) -> io::Result<()> {
-    rt.print(text)
+// Why the program ends early: a call is refused, or a line cannot be written.
+#[derive(Debug, Drop)]
+enum Failure {
+    Refused(Refusal),
+    Unwritten(io::Error),
 }
 
-fn say_number(rt: &impl Print, text: &str, n: u32) -> io::Result<()> {
-    print!(rt; "{text}{n}")
+impl From<Refusal> for Failure {
+    fn from(refusal: Refusal) -> Failure {
+        Failure::Refused(refusal)
+    }
 }
 
-fn say_member(rt: &impl Print, set: u32, p: usize) -> io::Result<()> {
-    if p < PORTS {
-        if (set >> p) % 2 == 1 {
-            say_number(rt, " ", words::narrow(p))?;
+impl From<io::Error> for Failure {
+    fn from(error: io::Error) -> Failure {
+        Failure::Unwritten(error)
+    }
+}
+
+// A set of ports, bit p for port p.
+struct Ports(u16);
+
+impl fmt::Display for Ports {
+    fn fmt<W: fmt::Write>(&self, f: &mut fmt::Formatter<W>) -> fmt::Result {
+        if self.0 == 0 {
+            return write!(f, " none");
+        }
+        for port in 0..PORTS {
+            if (self.0 >> port) % 2 == 1 {
+                write!(f, " {port}")?;
+            }
+        }
+        Ok(())
+    }
+}
+
+// What an input does, with the ports that it waits for or its output.
+struct Input(Mode);
+
+impl fmt::Display for Input {
+    fn fmt<W: fmt::Write>(&self, f: &mut fmt::Formatter<W>) -> fmt::Result {
+        match self.0 {
+            Mode::Idle => write!(f, "idle"),
+            Mode::Waiting(wanted) => write!(f, "waiting for{}", Ports(wanted.ports)),
+            Mode::Routed(output) => write!(f, "routed to {output}"),
+            Mode::Spilling => write!(f, "spilling"),
         }
     }
-    Ok(())
 }
 
-// The ports of a set, bit p for port p.
-fn say_set(rt: &impl Print, set: u32) -> io::Result<()> {
-    if set == 0 {
-        say(rt, " none")?;
-    }
-    for p in 0..PORTS {
-        say_member(rt, set, p)?;
-    }
-    Ok(())
-}
+// Which input an output is held by.
+struct Output(Option<usize>);
 
-// What an input does, by number, with the ports that it waits for or its output.
-fn say_mode(rt: &impl Print, mode: u32, ports: u32, output: u32) -> io::Result<()> {
-    match mode {
-        1 => {
-            say(rt, "waiting for")?;
-            say_set(rt, ports)
+impl fmt::Display for Output {
+    fn fmt<W: fmt::Write>(&self, f: &mut fmt::Formatter<W>) -> fmt::Result {
+        match self.0 {
+            Some(input) => write!(f, "held by {input}"),
+            None => write!(f, "free"),
         }
-        2 => say_number(rt, "routed to ", output),
-        3 => say(rt, "spilling"),
-        _ => say(rt, "idle"),
     }
 }
 
-fn say_owner(rt: &impl Print, owned: u32, input: u32) -> io::Result<()> {
-    if owned == 0 {
-        say(rt, "free")
-    } else {
-        say_number(rt, "held by ", input)
+// A router with its stores and its table, fresh at first.
+#[derive(Clone, Copy)]
+struct Bench {
+    words: Words,
+    area: [u16; AREA],
+    table: Table,
+}
+
+impl Bench {
+    fn new() -> Bench {
+        let mut bench = Bench {
+            words: [0; WORDS],
+            area: [0; AREA],
+            table: [0; ROWS],
+        };
+        router::fresh(&mut bench.words);
+        router_table::fresh(&mut bench.table);
+        bench
+    }
+
+    // N-Chars to an input, one after the other.
+    fn put_all(&mut self, port: u32, nchars: &[u32]) -> Result<(), Refusal> {
+        for nchar in nchars {
+            router::put(&mut self.words, &mut self.area, port, *nchar)?;
+        }
+        Ok(())
+    }
+
+    fn run(&mut self, rt: &impl Print) -> Result<(), Failure> {
+        let ran = router::run(&mut self.words, &mut self.area, &self.table, 20)?;
+        println!(rt; "  run: rounds {}, moved {}", ran.rounds, ran.moved)?;
+        Ok(())
+    }
+
+    // What is still held through a port, and which inputs have N-Chars that no round has moved.
+    fn ask(&self, rt: &impl Print, port: u32) -> Result<(), Failure> {
+        let held = router::still_held(&self.words, port)?;
+        print!(rt; "  port {port}:")?;
+        if held.nothing {
+            print!(rt; " nothing held;")?;
+        } else {
+            print!(rt; " input {}, {} waiting;", Input(held.mode), held.unmoved)?;
+            print!(rt;
+                " output {}, {} waiting, wanted by{};",
+                Output(held.owner), held.untaken, Ports(held.wanted)
+            )?;
+        }
+        println!(rt; " unread{}", Ports(held.unread))?;
+        Ok(())
+    }
+
+    // Takes what output 3 holds: at most the nine places of its store.
+    fn take_out(&mut self, rt: &impl Print) -> io::Result<()> {
+        print!(rt; "  output 3:")?;
+        for _ in 0..PLACES {
+            if let Ok(nchar) = router::take(&mut self.words, &self.area, 3) {
+                print!(rt; " {nchar}")?;
+            }
+        }
+        println!(rt)
     }
 }
 
-fn say_input(rt: &impl Print, out: &[u32; held::WORDS]) -> io::Result<()> {
-    say(rt, " input ")?;
-    say_mode(rt, out[0], out[1], out[3])?;
-    say_number(rt, ", ", out[4])?;
-    say(rt, " waiting;")
+fn a_leaves(rt: &impl Print, bench: &mut Bench) -> Result<(), Failure> {
+    println!(rt; "A at port 1 puts 3 11 12: a packet to port 3, its end to come")?;
+    bench.put_all(1, &[3, 11, 12])?;
+    bench.run(rt)?;
+    println!(rt; "A logs out, and the console asks")?;
+    bench.ask(rt, 1)?;
+    bench.ask(rt, 3)
 }
 
-fn say_output(rt: &impl Print, out: &[u32; held::WORDS]) -> io::Result<()> {
-    say(rt, " output ")?;
-    say_owner(rt, out[5], out[6])?;
-    say_number(rt, ", ", out[7])?;
-    say(rt, " waiting, wanted by")?;
-    say_set(rt, out[8])?;
-    say(rt, ";")
-}
-
-// What is still held through a port, and which inputs have N-Chars that no round has moved.
-fn ask(rt: &impl Print, words: &Words, port: u32) -> io::Result<()> {
-    let mut out = [0; held::WORDS];
-    router::still_held(words, port, &mut out);
-    say_number(rt, "  port ", port)?;
-    say(rt, ":")?;
-    if out[10] == 0 {
-        say_input(rt, &out)?;
-        say_output(rt, &out)?;
-    } else {
-        say(rt, " nothing held;")?;
-    }
-    say(rt, " unread")?;
-    say_set(rt, out[9])?;
-    say(rt, "\n")
-}
-
-fn put_two(words: &mut Words, area: &mut [u16], port: u32, a: u32, b: u32) {
-    router::put(words, area, port, a);
-    router::put(words, area, port, b);
-}
-
-fn run(rt: &impl Print, words: &mut Words, area: &mut [u16], table: &Table) -> io::Result<()> {
-    let mut told = [0; 3];
-    router::run(words, area, table, 20, &mut told);
-    say_number(rt, "  run: rounds ", told[0])?;
-    say_number(rt, ", moved ", told[1])?;
-    say(rt, "\n")
-}
-
-fn say_taken(rt: &impl Print, refusal: u32, n: u32) -> io::Result<()> {
-    if refusal == 0 {
-        say_number(rt, " ", n)?;
-    }
-    Ok(())
-}
-
-// Takes what output 3 holds: at most the nine places of its store.
-fn take_all(rt: &impl Print, words: &mut Words, area: &[u16]) -> io::Result<()> {
-    for _ in 0..PLACES {
-        let mut taken = [0; 1];
-        let refusal = router::take(words, area, 3, &mut taken);
-        say_taken(rt, refusal, taken[0])?;
-    }
-    Ok(())
-}
-
-fn take_out(rt: &impl Print, words: &mut Words, area: &[u16]) -> io::Result<()> {
-    say(rt, "  output 3:")?;
-    take_all(rt, words, area)?;
-    say(rt, "\n")
-}
-
-fn a_leaves(rt: &impl Print, words: &mut Words, area: &mut [u16], table: &Table) -> io::Result<()> {
-    say(
-        rt,
-        "A at port 1 puts 3 11 12: a packet to port 3, its end to come\n",
-    )?;
-    put_two(words, area, 1, 3, 11);
-    router::put(words, area, 1, 12);
-    run(rt, words, area, table)?;
-    say(rt, "A logs out, and the console asks\n")?;
-    ask(rt, words, 1)?;
-    ask(rt, words, 3)
-}
-
-fn b_waits(rt: &impl Print, words: &mut Words, area: &mut [u16], table: &Table) -> io::Result<()> {
-    say(rt, "B at port 2 puts 3 21 22 256: a packet to port 3\n")?;
-    put_two(words, area, 2, 3, 21);
-    put_two(words, area, 2, 22, 256);
-    run(rt, words, area, table)?;
-    ask(rt, words, 2)?;
-    ask(rt, words, 3)
+fn b_waits(rt: &impl Print, bench: &mut Bench) -> Result<(), Failure> {
+    println!(rt; "B at port 2 puts 3 21 22 256: a packet to port 3")?;
+    bench.put_all(2, &[3, 21, 22, 256])?;
+    bench.run(rt)?;
+    bench.ask(rt, 2)?;
+    bench.ask(rt, 3)
 }
 
 // Had nobody asked, what C puts would belong to A's packet; B's would still be whole.
-fn unasked(rt: &impl Print, words: &mut Words, area: &mut [u16], table: &Table) -> io::Result<()> {
-    say(rt, "Had C come to port 1 now and put 3 31 256\n")?;
-    put_two(words, area, 1, 3, 31);
-    router::put(words, area, 1, 256);
-    run(rt, words, area, table)?;
-    take_out(rt, words, area)
+fn unasked(rt: &impl Print, bench: &mut Bench) -> Result<(), Failure> {
+    println!(rt; "Had C come to port 1 now and put 3 31 256")?;
+    bench.put_all(1, &[3, 31, 256])?;
+    bench.run(rt)?;
+    bench.take_out(rt)?;
+    Ok(())
 }
 
-fn console_ends(
-    rt: &impl Print,
-    words: &mut Words,
-    area: &mut [u16],
-    table: &Table,
-) -> io::Result<()> {
-    say(rt, "The console waits\n")?;
-    run(rt, words, area, table)?;
-    ask(rt, words, 1)?;
-    say(
-        rt,
-        "The console puts the end that A's packet lacks to input 1: 257\n",
-    )?;
-    router::put(words, area, 1, 257);
-    run(rt, words, area, table)?;
-    ask(rt, words, 1)?;
-    take_out(rt, words, area)?;
-    ask(rt, words, 3)
+fn console_ends(rt: &impl Print, bench: &mut Bench) -> Result<(), Failure> {
+    println!(rt; "The console waits")?;
+    bench.run(rt)?;
+    bench.ask(rt, 1)?;
+    println!(rt; "The console puts the end that A's packet lacks to input 1: 257")?;
+    bench.put_all(1, &[257])?;
+    bench.run(rt)?;
+    bench.ask(rt, 1)?;
+    bench.take_out(rt)?;
+    bench.ask(rt, 3)
 }
 
-fn c_sends(rt: &impl Print, words: &mut Words, area: &mut [u16], table: &Table) -> io::Result<()> {
-    say(rt, "C at port 1 puts 3 31 256\n")?;
-    put_two(words, area, 1, 3, 31);
-    router::put(words, area, 1, 256);
-    run(rt, words, area, table)?;
-    take_out(rt, words, area)?;
-    ask(rt, words, 1)?;
-    ask(rt, words, 3)
+fn c_sends(rt: &impl Print, bench: &mut Bench) -> Result<(), Failure> {
+    println!(rt; "C at port 1 puts 3 31 256")?;
+    bench.put_all(1, &[3, 31, 256])?;
+    bench.run(rt)?;
+    bench.take_out(rt)?;
+    bench.ask(rt, 1)?;
+    bench.ask(rt, 3)
 }
 
-fn main(rt: HostRuntime) -> io::Result<()> {
-    let mut area = [0u16; AREA];
-    let mut table = [0; ROWS];
-    let mut words = [0; WORDS];
-    router_table::fresh(&mut table);
-    router::fresh(&mut words);
-    a_leaves(&rt, &mut words, &mut area, &table)?;
-    b_waits(&rt, &mut words, &mut area, &table)?;
-    let mut other_words = words;
-    let mut other_area = area;
-    unasked(&rt, &mut other_words, &mut other_area, &table)?;
-    console_ends(&rt, &mut words, &mut area, &table)?;
-    c_sends(&rt, &mut words, &mut area, &table)
+fn main(rt: HostRuntime) -> Result<(), Failure> {
+    let mut bench = Bench::new();
+    a_leaves(&rt, &mut bench)?;
+    b_waits(&rt, &mut bench)?;
+    let mut other = bench;
+    unasked(&rt, &mut other)?;
+    console_ends(&rt, &mut bench)?;
+    c_sends(&rt, &mut bench)
 }
