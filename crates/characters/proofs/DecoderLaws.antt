@@ -16,8 +16,9 @@ use Rattle.words.proofs.TokenLaws.{token_back}
 use Rattle.characters.specs.Decoder.{bit_step, tick_step}
 use Rattle.characters.specs.Refusals.{decoder_refusal}
 use Rattle.characters.specs.Calls.{bit_answer, tick_answer, decode_accepted, decode_refused}
-use Rattle.characters.specs.States.{Waiting, Reported, Whole, Esc, Hunting, Between, Parity, Data, Control}
-use Rattle.characters.specs.States.{Second, Decoder, Fresh, Heard, Stopped, Step}
+use Rattle.characters.specs.declared.reports.Waiting.{Waiting}
+use Rattle.characters.specs.declared.reports.Waiting.TheVariants.{Reported, Whole, Esc}
+use Rattle.characters.specs.States.{Hunting, Between, Parity, Data, Control, Second, Decoder, Fresh, Heard, Stopped, Step}
 use Rattle.characters.specs.DecoderWords.{waiting_number, waiting_value, waiting_of, decoder_words, decoder_from}
 use Rattle.characters.specs.DecoderWords.{decoder_of, decoded, no_decoder, bit_left, tick_left, is_decoder}
 use Rattle.characters.specs.DecoderWords.{FitsWaiting, FitsDecoder, KeepsDecoders}

@@ -8,8 +8,11 @@ use native.Mathlib.Omega.{arith}
 use lib.Dec.{eqb}
 use Rattle.vocabulary.specs.Choice.{pick}
 use Rattle.words.specs.Words.{word_at, truth, byte}
-use Rattle.characters.specs.States.{Waiting, Reported, Whole, Hunting, Between, Parity, Data, Control, Second}
-use Rattle.characters.specs.States.{Decoder, Fresh, Heard, Stopped, Nothing, Got, ParityError}
+use Rattle.characters.specs.declared.reports.Report.TheVariants.{Got, ParityError}
+use Rattle.characters.specs.declared.reports.Waiting.{Waiting}
+use Rattle.characters.specs.declared.reports.Waiting.TheVariants.{Reported, Whole}
+use Rattle.characters.specs.States.{Hunting, Between, Parity, Data, Control, Second, Decoder, Fresh, Heard, Stopped}
+use Rattle.std.specs.Prelude.{None, Some}
 use Rattle.vocabulary.specs.declared.Token.TheVariants.{Null}
 use Rattle.characters.specs.Wire.{good_parity}
 use Rattle.characters.specs.Decoder.{goes_on, stops, shifted, no_bits, hunted_for, hunts, body_odd, closes, escaped, body_of}
@@ -60,20 +63,20 @@ shifted_fits : (places : ℕ) (b : Bool) → places < 256 → shifted places b <
 shifted_fits places b h = omega (arith, bit_le b)
 
 hunt_fits : (found : Bool) (places : ℕ) → places < 256 →
-    FitsDecoder (pick found (goes_on (Between Reported) (Got Null)) (goes_on (Hunting places) Nothing)).decoder
+    FitsDecoder (pick found (goes_on (Between Reported) (Some (Got Null))) (goes_on (Hunting places) None)).decoder
 unfolding goes_on
 hunt_fits true places h = (omega arith, tt)
 hunt_fits false places h = (omega arith, h)
 
 flag_fits : (good : Bool) (w : Waiting) (flag : Bool) →
-    FitsDecoder (pick good (goes_on (body_of (escaped w) flag) (closes w)) (stops ParityError)).decoder
+    FitsDecoder (pick good (goes_on (body_of (escaped w) flag) (closes w)) (stops (Some ParityError))).decoder
 unfolding goes_on stops
 flag_fits true w true = (omega arith, tt)
 flag_fits true w false = (omega arith, omega arith)
 flag_fits false w flag = tt
 
 data_fits : (last escape : Bool) (v : ℕ) → v < 256 →
-    FitsDecoder (pick last (goes_on (Between (Whole (data_token escape v))) Nothing) (goes_on (Data escape v) Nothing)).decoder
+    FitsDecoder (pick last (goes_on (Between (Whole (data_token escape v))) None) (goes_on (Data escape v) None)).decoder
 unfolding goes_on
 data_fits true true v h = (omega arith, h)
 data_fits true false v h = (omega arith, omega (arith, h))

@@ -1,35 +1,34 @@
--- Seven words are those of a decoder: the tests that a phase leaves of all are the ones that its function makes.
+-- Seven words are those of a decoder: the tests that a phase leaves of all say how large each word may be.
 -- Assumes nothing.
 use Prim.Native.Nat.{ℕ, zero, suc}
-use mathlib.Core.Path.{◌≡◌, refl, sym, ◌∙◌}
+use mathlib.Core.Path.{◌≡◌, refl, sym, subst, ◌∙◌}
 use mathlib.Core.Bool.{Bool, true, false, not, ◌&&◌, ◌||◌}
+use mathlib.Core.Logic.{◌⊎◌, inl, inr}
 use mathlib.Core.List.{List, [], ◌∷◌}
 use native.Mathlib.Omega.{arith}
-use native.Mathlib.Decide.{ℕ_discrete}
 use lib.Dec.{eqb, ltb, leb}
 use lib.ListN.{length}
-use borrow.Author.Tests.{eq-eqb, ne_eqb, lt-ltb, le-ltb, leb-true, leb-false, ltb-true, ltb-false}
+use borrow.Author.Tests.{eq-eqb, ne_eqb, lt-ltb, le-ltb, lt-leb, le-leb, leb-true, leb-false, ltb-true, ltb-false}
 use Rattle.words.specs.Words.{same, word_at, byte, truth, truth_word}
 use Rattle.words.proofs.NumberLaws.{byte_back}
-use Rattle.words.proofs.SameLaws.{same_lengths}
 use Rattle.characters.specs.Refusals.{bad_waiting}
-use Rattle.characters.specs.DecoderWords.{waiting_number, waiting_value, waiting_of, is_waiting}
-use Rattle.characters.specs.DecoderWords.{decoder_from, decoder_of, is_good_as, is_good}
+use Rattle.characters.specs.DecoderWords.{waiting_number, waiting_value, waiting_of, most_value, within}
+use Rattle.characters.specs.declared.phases.Phase as numbers
+use Rattle.characters.specs.declared.phases.Phase.TheVariants as the
+use Rattle.characters.specs.DecoderWords.{phase_number, decoder_from, decoder_of, is_good_as, is_good}
+use Rattle.characters.proofs.WaitingLaws.{waiting_test}
 
-same_seven : (v : List ℕ) (a b c d e f g : ℕ) → length v ≡ 7 →
-    same v (a ∷ b ∷ c ∷ d ∷ e ∷ f ∷ g ∷ [])
-    ≡ eqb (word_at v 0) a && (eqb (word_at v 1) b && (eqb (word_at v 2) c &&
-    (eqb (word_at v 3) d && (eqb (word_at v 4) e && (eqb (word_at v 5) f && (eqb (word_at v 6) g && true))))))
-unfolding same
-same_seven (s ∷ t ∷ u ∷ v ∷ w ∷ x ∷ y ∷ []) a b c d e f g h = refl
-same_seven [] a b c d e f g h = absurd (omega (arith, h))
-same_seven (s ∷ []) a b c d e f g h = absurd (omega (arith, h))
-same_seven (s ∷ t ∷ []) a b c d e f g h = absurd (omega (arith, h))
-same_seven (s ∷ t ∷ u ∷ []) a b c d e f g h = absurd (omega (arith, h))
-same_seven (s ∷ t ∷ u ∷ v ∷ []) a b c d e f g h = absurd (omega (arith, h))
-same_seven (s ∷ t ∷ u ∷ v ∷ w ∷ []) a b c d e f g h = absurd (omega (arith, h))
-same_seven (s ∷ t ∷ u ∷ v ∷ w ∷ x ∷ []) a b c d e f g h = absurd (omega (arith, h))
-same_seven (s ∷ t ∷ u ∷ v ∷ w ∷ x ∷ y ∷ z ∷ l) a b c d e f g h = absurd (omega (arith, h))
+-- seven words, one by one
+pub seven : (v : List ℕ) → length v ≡ 7 → let w = word_at v in v ≡ w 0 ∷ w 1 ∷ w 2 ∷ w 3 ∷ w 4 ∷ w 5 ∷ w 6 ∷ []
+seven (s ∷ t ∷ u ∷ v ∷ w ∷ x ∷ y ∷ []) h = refl
+seven [] h = absurd (omega (arith, h))
+seven (s ∷ []) h = absurd (omega (arith, h))
+seven (s ∷ t ∷ []) h = absurd (omega (arith, h))
+seven (s ∷ t ∷ u ∷ []) h = absurd (omega (arith, h))
+seven (s ∷ t ∷ u ∷ v ∷ []) h = absurd (omega (arith, h))
+seven (s ∷ t ∷ u ∷ v ∷ w ∷ []) h = absurd (omega (arith, h))
+seven (s ∷ t ∷ u ∷ v ∷ w ∷ x ∷ []) h = absurd (omega (arith, h))
+seven (s ∷ t ∷ u ∷ v ∷ w ∷ x ∷ y ∷ z ∷ l) h = absurd (omega (arith, h))
 
 pub and_true : (b : Bool) → b && true ≡ b
 and_true true = refl
@@ -39,22 +38,20 @@ and_false : (b : Bool) → b && false ≡ false
 and_false true = refl
 and_false false = refl
 
--- the order in which the words are tested
-regrouped : (t c d e f p b : Bool) →
-    (((t && e) && f) && p) && (c && (d && b)) ≡ (t && (c && (d && (e && (f && (p && true)))))) && b
-regrouped false c d e f p b = refl
-regrouped true false d e f p b = and_false ((e && f) && p)
-regrouped true true false e f p b = and_false ((e && f) && p)
-regrouped true true true false f p b = refl
-regrouped true true true true false p b = refl
-regrouped true true true true true false b = refl
-regrouped true true true true true true b = refl
+-- each test of a word is that it is the word of what it means
+zero_test : (w : ℕ) → leb w 0 ≡ eqb w 0
+zero_test zero = refl
+zero_test (suc n) = rw (lt-leb (suc n) 0 (omega arith), ne_eqb (suc n) 0 (λ e. omega (arith, e)))
 
--- the ticks of the silence, taken out of the values' tests
-silence_apart : (b s rest bad : Bool) → ((b && not s) && rest) && not bad ≡ (b && rest) && not (s || bad)
-silence_apart false s rest bad = refl
-silence_apart true false rest bad = refl
-silence_apart true true rest bad = sym (and_false rest)
+pub truth_test : (w : ℕ) → leb w 1 ≡ eqb w (truth_word (truth w))
+truth_test zero = refl
+truth_test (suc zero) = refl
+truth_test (suc (suc n)) =
+    rw (
+      lt-leb (suc (suc n)) 1 (omega arith),
+      ne_eqb (suc (suc n)) 0 (λ e. omega (arith, e)),
+      ne_eqb (suc (suc n)) 1 (λ e. omega (arith, e)),
+    )
 
 silence_test : (w : ℕ) → leb w 8 ≡ eqb w (byte w) && not (ltb 8 (byte w))
 silence_test w = by (leb w 8) refl (ltb w 256) refl
@@ -65,132 +62,142 @@ silence_test w = by (leb w 8) refl (ltb w 256) refl
     by true p false q = absurd (omega (arith, leb-true w 8 p, ltb-false w 256 q))
     by false p false q = rw (p, ne_eqb w (byte w) (λ e. omega (arith, e, ltb-false w 256 q)))
 
-pub truth_test : (w : ℕ) → ltb w 2 ≡ eqb w (truth_word (truth w))
-truth_test zero = refl
-truth_test (suc zero) = refl
-truth_test (suc (suc n)) =
-    rw (
-      le-ltb (suc (suc n)) 2 (omega arith),
-      ne_eqb (suc (suc n)) 0 (λ e. omega (arith, e)),
-      ne_eqb (suc (suc n)) 1
-          (λ e. omega (arith, e)),
-    )
-
 -- the eight places, which have one value that the rules never give
-places_test : (x y z : Bool) (w k : ℕ) →
-    (x && ltb w 256) && (y && (z && not (eqb w k))) ≡ (x && eqb w (byte w)) && (y && (z && not (eqb (byte w) k)))
-places_test x y z w k = by (ltb w 256) refl
+places_test : (w never : ℕ) → leb w 255 && not (eqb w never) ≡ eqb w (byte w) && not (eqb (byte w) never)
+places_test w never = by (ltb w 256) refl
   where
-    by : (b : Bool) → ltb w 256 ≡ b →
-        (x && ltb w 256) && (y && (z && not (eqb w k))) ≡ (x && eqb w (byte w)) && (y && (z && not (eqb (byte w) k)))
-    by true q = rw (q, byte_back w (ltb-true w 256 q), eq-eqb w w refl)
-    by false q = rw (q, ne_eqb w (byte w) (λ e. omega (arith, e, ltb-false w 256 q)), and_false x)
+    by : (b : Bool) → ltb w 256 ≡ b → leb w 255 && not (eqb w never) ≡ eqb w (byte w) && not (eqb (byte w) never)
+    by true q =
+        rw (
+          le-leb w 255 (omega (arith, ltb-true w 256 q)),
+          byte_back w (ltb-true w 256 q),
+          eq-eqb w w refl,
+        )
+    by false q =
+        rw (
+          lt-leb w 255 (omega (arith, ltb-false w 256 q)),
+          ne_eqb w (byte w) (λ e. omega (arith, e, ltb-false w 256 q)),
+        )
 
--- the tests of words of a decoder that has heard a bit, in the order of `decoder_tests`
-abbrev tests : Bool → Bool → Bool → Bool → Bool → Bool
-tests silent escape first places waits = (((silent && escape) && first) && places) && waits
+-- The words are tested in their order, and the decoder's values behind them: two tests of words go into two of values.
+regrouped : (own short n x e f p q places never : Bool) → p && q ≡ places && never →
+    ((own && short) && (n && (x && (e && (f && (p && true)))))) && q
+    ≡ (own && (n && (x && (e && (f && (places && true)))))) && (short && never)
+regrouped false short n x e f p q places never h = refl
+regrouped true false n x e f p q places never h = sym (and_false (n && (x && (e && (f && (places && true))))))
+regrouped true true false x e f p q places never h = refl
+regrouped true true true false e f p q places never h = refl
+regrouped true true true true false f p q places never h = refl
+regrouped true true true true true false p q places never h = refl
+regrouped true true true true true true p q places never h = rw (and_true p, and_true places) h
 
-abbrev whole : List ℕ → Bool
-whole v = eqb (length v) 7
+neither : (a b : Bool) → not (a || b) ≡ not a && not b
+neither true b = refl
+neither false b = refl
 
-module _ (v : List ℕ) where
-  heard_seven : length v ≡ 7 → (k n x e f p : ℕ) (bad : Bool) → word_at v 0 ≡ k → let w = word_at v in
-      tests (leb (w 1) 8) (eqb (w 4) e) (eqb (w 5) f) (eqb (w 6) p) (eqb (w 2) n && (eqb (w 3) x && not bad))
-      ≡ same v (k ∷ byte (w 1) ∷ n ∷ x ∷ e ∷ f ∷ p ∷ []) && not (ltb 8 (byte (w 1)) || bad)
-  heard_seven seven k n x e f p bad phase =
-      let own = eqb (word_at v 1) (byte (word_at v 1)) in
-      let long = ltb 8 (byte (word_at v 1)) in
-      let later = eqb (word_at v 4) e && (eqb (word_at v 5) f && (eqb (word_at v 6) p && true)) in
-      rw (same_seven v k (byte (word_at v 1)) n x e f p seven, eq-eqb (word_at v 0) k phase, silence_test (word_at v 1))
-      (regrouped (own && not long) (eqb (word_at v 2) n) (eqb (word_at v 3) x) (eqb (word_at v 4) e) (eqb (word_at v 5) f)
-      (eqb (word_at v 6) p) (not bad)
-      ∙ silence_apart own long (eqb (word_at v 2) n && (eqb (word_at v 3) x && later)) bad)
+-- The same where what waits is tested by its number and value together.
+together : (n x rest : Bool) → n && (x && rest) ≡ (n && x) && rest
+together true x rest = refl
+together false x rest = refl
 
-  heard : (k n x e f p : ℕ) (bad : Bool) → word_at v 0 ≡ k → let w = word_at v in
-      tests (whole v && leb (w 1) 8) (eqb (w 4) e) (eqb (w 5) f) (eqb (w 6) p) (eqb (w 2) n && (eqb (w 3) x && not bad))
-      ≡ same v (k ∷ byte (w 1) ∷ n ∷ x ∷ e ∷ f ∷ p ∷ []) && not (ltb 8 (byte (w 1)) || bad)
-  heard k n x e f p bad phase = by (ℕ_discrete (length v) 7)
-    where
-      by : Dec (length v ≡ 7) → let w = word_at v in
-          tests (whole v && leb (w 1) 8) (eqb (w 4) e) (eqb (w 5) f) (eqb (w 6) p)
-          (eqb (w 2) n && (eqb (w 3) x && not bad))
-          ≡ same v (k ∷ byte (w 1) ∷ n ∷ x ∷ e ∷ f ∷ p ∷ []) && not (ltb 8 (byte (w 1)) || bad)
-      by (yes h) = rw (eq-eqb (length v) 7 h) (heard_seven h k n x e f p bad phase)
-      by (no h) = rw (ne_eqb (length v) 7 h, same_lengths v (k ∷ byte (word_at v 1) ∷ n ∷ x ∷ e ∷ f ∷ p ∷ []) h)
+behind : (n x ok rest : Bool) → (n && (x && ok)) && rest ≡ (n && (x && rest)) && ok
+behind false x ok rest = refl
+behind true false ok rest = refl
+behind true true false rest = sym (and_false rest)
+behind true true true rest = sym (and_true rest)
 
-  -- eight places that never hold one number
-  placed : (k e never : ℕ) → word_at v 0 ≡ k → let w = word_at v in
-      tests (whole v && leb (w 1) 8) (eqb (w 4) e) (eqb (w 5) 0) (ltb (w 6) 256)
-      (eqb (w 2) 0 && (eqb (w 3) 0 && not (eqb (w 6) never)))
-      ≡ same v (k ∷ byte (w 1) ∷ 0 ∷ 0 ∷ e ∷ 0 ∷ byte (w 6) ∷ []) && not (ltb 8 (byte (w 1)) || eqb (byte (w 6)) never)
-  placed k e never phase =
-      places_test (((whole v && leb (word_at v 1) 8) && eqb (word_at v 4) e) && eqb (word_at v 5) 0) (eqb (word_at v 2) 0)
-      (eqb (word_at v 3) 0) (word_at v 6) never
-      ∙ heard k 0 0 e 0 (byte (word_at v 6)) (eqb (byte (word_at v 6)) never) phase
+regrouped_waiting : (own short n x rest number value ok : Bool) → n && x ≡ number && (value && ok) →
+    (own && short) && (n && (x && rest)) ≡ (own && (number && (value && rest))) && (short && ok)
+regrouped_waiting false short n x rest number value ok h = refl
+regrouped_waiting true false n x rest number value ok h = sym (and_false (number && (value && rest)))
+regrouped_waiting true true n x rest number value ok h = rw (together n x rest, h) (behind number value ok rest)
 
-  -- something waits
-  waited : (k f : ℕ) → word_at v 0 ≡ k → let w = word_at v in let waits = waiting_of (w 2) (w 3) in
-      tests (whole v && leb (w 1) 8) (eqb (w 4) 0) (eqb (w 5) f) (eqb (w 6) 0) (is_waiting (w 2) (w 3))
-      ≡ same v (k ∷ byte (w 1) ∷ waiting_number waits ∷ waiting_value waits ∷ 0 ∷ f ∷ 0 ∷ []) && not
-      (ltb 8 (byte (w 1)) || bad_waiting waits)
-  waited k f phase =
-      let waits = waiting_of (word_at v 2) (word_at v 3) in
-      heard k (waiting_number waits) (waiting_value waits) 0 f 0 (bad_waiting waits) phase
+-- of a decoder that has heard a bit: the tests of its words, and those of the words and values that are to be there
+module _ (s n x e f p n' x' e' f' p' : ℕ) where
+  heard : (tn tx te tf tp tq bad : Bool) → tn ≡ eqb n n' → tx ≡ eqb x x' → te ≡ eqb e e' → tf ≡ eqb f f' →
+      tp && tq ≡ eqb p p' && not bad →
+      (leb s 8 && (tn && (tx && (te && (tf && (tp && true)))))) && tq
+      ≡ (eqb s (byte s) && (eqb n n' && (eqb x x' && (eqb e e' && (eqb f f' && (eqb p p' && true)))))) &&
+      not (ltb 8 (byte s) || bad)
+  heard tn tx te tf tp tq bad hn hx he hf hp =
+      rw (silence_test s, neither (ltb 8 (byte s)) bad, hn, hx, he, hf)
+      (regrouped (eqb s (byte s)) (not (ltb 8 (byte s))) (eqb n n') (eqb x x') (eqb e e') (eqb f f') tp tq (eqb p p')
+      (not bad) hp)
 
-  pub hunting_good : word_at v 0 ≡ 1 → let w = word_at v in
-      tests (whole v && leb (w 1) 8) (eqb (w 4) 0) (eqb (w 5) 0) (ltb (w 6) 256)
-      (eqb (w 2) 0 && (eqb (w 3) 0 && not (eqb (w 6) 46))) ≡ is_good v
-  unfolding is_good is_good_as decoder_of decoder_from
-  hunting_good h = placed 1 0 46 h ∙ sym (rw h)
+  waited : (tn tx te tf tp bad : Bool) → tn && tx ≡ eqb n n' && (eqb x x' && not bad) → te ≡ eqb e e' → tf ≡ eqb f f' →
+      tp ≡ eqb p p' →
+      leb s 8 && (tn && (tx && (te && (tf && (tp && true)))))
+      ≡ (eqb s (byte s) && (eqb n n' && (eqb x x' && (eqb e e' && (eqb f f' && (eqb p p' && true)))))) &&
+      not (ltb 8 (byte s) || bad)
+  waited tn tx te tf tp bad h he hf hp =
+      rw (silence_test s, neither (ltb 8 (byte s)) bad, he, hf, hp)
+      (regrouped_waiting (eqb s (byte s)) (not (ltb 8 (byte s))) tn tx (eqb e e' && (eqb f f' && (eqb p p' && true)))
+      (eqb n n') (eqb x x') (not bad) h)
 
-  pub between_good : word_at v 0 ≡ 2 → let w = word_at v in
-      tests (whole v && leb (w 1) 8) (eqb (w 4) 0) (eqb (w 5) 0) (eqb (w 6) 0) (is_waiting (w 2) (w 3)) ≡ is_good v
-  unfolding is_good is_good_as decoder_of decoder_from
-  between_good h = waited 2 0 h ∙ sym (rw h)
+-- what is allowed in each phase
+module _ (v : List ℕ) (whole : length v ≡ 7) where
+  abbrev w : ℕ → ℕ
+  w k = word_at v k
 
-  pub parity_good : word_at v 0 ≡ 3 → let w = word_at v in
-      tests (whole v && leb (w 1) 8) (eqb (w 4) 0) (ltb (w 5) 2) (eqb (w 6) 0) (is_waiting (w 2) (w 3)) ≡ is_good v
-  unfolding is_good is_good_as decoder_of decoder_from
-  parity_good h = rw (truth_test (word_at v 5)) (waited 3 (truth_word (truth (word_at v 5))) h ∙ sym (rw h))
+  fresh_good : word_at v 0 ≡ 0 → within v (7 ∷ 0 ∷ 0 ∷ 0 ∷ 0 ∷ 0 ∷ 0 ∷ []) ≡ is_good v
+  unfolding is_good is_good_as decoder_of decoder_from same
+  fresh_good phase =
+      subst (λ (u : List ℕ). within u (7 ∷ 0 ∷ 0 ∷ 0 ∷ 0 ∷ 0 ∷ 0 ∷ []) ≡ is_good u) (sym (seven v whole))
+      (rw (phase, zero_test (w 1), zero_test (w 2), zero_test (w 3), zero_test (w 4), zero_test (w 5), zero_test (w 6))
+      (sym (and_true _)))
 
-  pub data_good : word_at v 0 ≡ 4 → let w = word_at v in
-      tests (whole v && leb (w 1) 8) (ltb (w 4) 2) (eqb (w 5) 0) (ltb (w 6) 256)
-      (eqb (w 2) 0 && (eqb (w 3) 0 && not (eqb (w 6) 0))) ≡ is_good v
-  unfolding is_good is_good_as decoder_of decoder_from
-  data_good h = rw (truth_test (word_at v 4)) (placed 4 (truth_word (truth (word_at v 4))) 0 h ∙ sym (rw h))
+  stopped_good : word_at v 0 ≡ 7 → within v (7 ∷ 0 ∷ 0 ∷ 0 ∷ 0 ∷ 0 ∷ 0 ∷ []) ≡ is_good v
+  unfolding is_good is_good_as decoder_of decoder_from same
+  stopped_good phase =
+      subst (λ (u : List ℕ). within u (7 ∷ 0 ∷ 0 ∷ 0 ∷ 0 ∷ 0 ∷ 0 ∷ []) ≡ is_good u) (sym (seven v whole))
+      (rw (phase, zero_test (w 1), zero_test (w 2), zero_test (w 3), zero_test (w 4), zero_test (w 5), zero_test (w 6))
+      (sym (and_true _)))
 
-  pub control_good : word_at v 0 ≡ 5 → let w = word_at v in
-      tests (whole v && leb (w 1) 8) (ltb (w 4) 2) (eqb (w 5) 0) (eqb (w 6) 0) (eqb (w 2) 0 && eqb (w 3) 0) ≡ is_good v
-  unfolding is_good is_good_as decoder_of decoder_from
-  control_good h =
-      rw (truth_test (word_at v 4), ← and_true (eqb (word_at v 3) 0))
-      (heard 5 0 0 (truth_word (truth (word_at v 4))) 0 0 false h ∙ sym (rw h))
+  pub unused_good : {p : numbers.Phase} → (p ≡ the.Fresh) ⊎ (p ≡ the.Stopped) → word_at v 0 ≡ phase_number p →
+      within v (7 ∷ 0 ∷ 0 ∷ 0 ∷ 0 ∷ 0 ∷ 0 ∷ []) ≡ is_good v
+  unused_good (inl e) phase = fresh_good (rw e at phase)
+  unused_good (inr e) phase = stopped_good (rw e at phase)
 
-  pub second_good : word_at v 0 ≡ 6 → let w = word_at v in
-      tests (whole v && leb (w 1) 8) (ltb (w 4) 2) (ltb (w 5) 2) (eqb (w 6) 0) (eqb (w 2) 0 && eqb (w 3) 0) ≡ is_good v
-  unfolding is_good is_good_as decoder_of decoder_from
-  second_good h =
-      rw (truth_test (word_at v 4), truth_test (word_at v 5), ← and_true (eqb (word_at v 3) 0))
-      (heard 6 0 0 (truth_word (truth (word_at v 4))) (truth_word (truth (word_at v 5))) 0 false h ∙ sym (rw h))
+  pub hunting_good : word_at v 0 ≡ 1 → within v (7 ∷ 8 ∷ 0 ∷ 0 ∷ 0 ∷ 0 ∷ 255 ∷ []) && not (eqb (word_at v 6) 46) ≡ is_good v
+  unfolding is_good is_good_as decoder_of decoder_from same
+  hunting_good phase =
+      subst (λ (u : List ℕ). within u (7 ∷ 8 ∷ 0 ∷ 0 ∷ 0 ∷ 0 ∷ 255 ∷ []) && not (eqb (word_at u 6) 46) ≡ is_good u) (sym (seven v whole))
+      (rw phase (heard (w 1) (w 2) (w 3) (w 4) (w 5) (w 6) 0 0 0 0 (byte (w 6)) (leb (w 2) 0) (leb (w 3) 0) (leb (w 4) 0) (leb (w 5) 0) (leb (w 6) 255) (not (eqb (w 6) 46)) (eqb (byte (w 6)) 46) (zero_test (w 2)) (zero_test (w 3)) (zero_test (w 4)) (zero_test (w 5)) (places_test (w 6) 46)))
 
-  -- no word but the phase is used
-  pub unused_same : let w = word_at v in
-      tests (whole v && eqb (w 1) 0) (eqb (w 4) 0) (eqb (w 5) 0) (eqb (w 6) 0) (eqb (w 2) 0 && eqb (w 3) 0)
-      ≡ same v (w 0 ∷ 0 ∷ 0 ∷ 0 ∷ 0 ∷ 0 ∷ 0 ∷ [])
-  unused_same = by (ℕ_discrete (length v) 7)
-    where
-      by : Dec (length v ≡ 7) → let w = word_at v in
-          tests (whole v && eqb (w 1) 0) (eqb (w 4) 0) (eqb (w 5) 0) (eqb (w 6) 0) (eqb (w 2) 0 && eqb (w 3) 0)
-          ≡ same v (w 0 ∷ 0 ∷ 0 ∷ 0 ∷ 0 ∷ 0 ∷ 0 ∷ [])
-      by (yes h) =
-          let w : ℕ → Bool = λ k. eqb (word_at v k) 0 in
-          rw (
-            eq-eqb (length v) 7 h,
-            ← and_true (eqb (word_at v 3) 0),
-            same_seven v (word_at v 0) 0 0 0 0 0 0 h,
-            eq-eqb
-                (word_at v 0) (word_at v 0) refl,
-          )
-          (regrouped (w 1) (w 2) (w 3) (w 4) (w 5) (w 6) true ∙ and_true
-          (w 1 && (w 2 && (w 3 && (w 4 && (w 5 && (w 6 && true)))))))
-      by (no h) = rw (ne_eqb (length v) 7 h, same_lengths v (word_at v 0 ∷ 0 ∷ 0 ∷ 0 ∷ 0 ∷ 0 ∷ 0 ∷ []) h)
+  pub between_good : word_at v 0 ≡ 2 → within v (7 ∷ 8 ∷ 5 ∷ most_value (word_at v 2) ∷ 0 ∷ 0 ∷ 0 ∷ []) ≡ is_good v
+  unfolding is_good is_good_as decoder_of decoder_from same
+  between_good phase =
+      let waits = waiting_of (w 2) (w 3) in
+      subst (λ (u : List ℕ). within u (7 ∷ 8 ∷ 5 ∷ most_value (word_at u 2) ∷ 0 ∷ 0 ∷ 0 ∷ []) ≡ is_good u) (sym (seven v whole))
+      (rw phase
+      (waited (w 1) (w 2) (w 3) (w 4) (w 5) (w 6) (waiting_number waits) (waiting_value waits) 0 0 0
+      (leb (w 2) 5) (leb (w 3) (most_value (w 2))) (leb (w 4) 0) (leb (w 5) 0) (leb (w 6) 0) (bad_waiting waits)
+      (waiting_test (w 2) (w 3)) (zero_test (w 4)) (zero_test (w 5)) (zero_test (w 6))))
+
+  pub parity_good : word_at v 0 ≡ 3 → within v (7 ∷ 8 ∷ 5 ∷ most_value (word_at v 2) ∷ 0 ∷ 1 ∷ 0 ∷ []) ≡ is_good v
+  unfolding is_good is_good_as decoder_of decoder_from same
+  parity_good phase =
+      let waits = waiting_of (w 2) (w 3) in
+      subst (λ (u : List ℕ). within u (7 ∷ 8 ∷ 5 ∷ most_value (word_at u 2) ∷ 0 ∷ 1 ∷ 0 ∷ []) ≡ is_good u) (sym (seven v whole))
+      (rw phase
+      (waited (w 1) (w 2) (w 3) (w 4) (w 5) (w 6) (waiting_number waits) (waiting_value waits) 0 (truth_word (truth (w 5))) 0
+      (leb (w 2) 5) (leb (w 3) (most_value (w 2))) (leb (w 4) 0) (leb (w 5) 1) (leb (w 6) 0) (bad_waiting waits)
+      (waiting_test (w 2) (w 3)) (zero_test (w 4)) (truth_test (w 5)) (zero_test (w 6))))
+
+  pub data_good : word_at v 0 ≡ 4 → within v (7 ∷ 8 ∷ 0 ∷ 0 ∷ 1 ∷ 0 ∷ 255 ∷ []) && not (eqb (word_at v 6) 0) ≡ is_good v
+  unfolding is_good is_good_as decoder_of decoder_from same
+  data_good phase =
+      subst (λ (u : List ℕ). within u (7 ∷ 8 ∷ 0 ∷ 0 ∷ 1 ∷ 0 ∷ 255 ∷ []) && not (eqb (word_at u 6) 0) ≡ is_good u) (sym (seven v whole))
+      (rw phase (heard (w 1) (w 2) (w 3) (w 4) (w 5) (w 6) 0 0 (truth_word (truth (w 4))) 0 (byte (w 6)) (leb (w 2) 0) (leb (w 3) 0) (leb (w 4) 1) (leb (w 5) 0) (leb (w 6) 255) (not (eqb (w 6) 0)) (eqb (byte (w 6)) 0) (zero_test (w 2)) (zero_test (w 3)) (truth_test (w 4)) (zero_test (w 5)) (places_test (w 6) 0)))
+
+  pub control_good : word_at v 0 ≡ 5 → within v (7 ∷ 8 ∷ 0 ∷ 0 ∷ 1 ∷ 0 ∷ 0 ∷ []) ≡ is_good v
+  unfolding is_good is_good_as decoder_of decoder_from same
+  control_good phase =
+      subst (λ (u : List ℕ). within u (7 ∷ 8 ∷ 0 ∷ 0 ∷ 1 ∷ 0 ∷ 0 ∷ []) ≡ is_good u) (sym (seven v whole))
+      (rw phase (sym (and_true _) ∙ heard (w 1) (w 2) (w 3) (w 4) (w 5) (w 6) 0 0 (truth_word (truth (w 4))) 0 0 (leb (w 2) 0) (leb (w 3) 0) (leb (w 4) 1) (leb (w 5) 0) (leb (w 6) 0) true false (zero_test (w 2)) (zero_test (w 3)) (truth_test (w 4)) (zero_test (w 5)) (rw (zero_test (w 6)))))
+
+  pub second_good : word_at v 0 ≡ 6 → within v (7 ∷ 8 ∷ 0 ∷ 0 ∷ 1 ∷ 1 ∷ 0 ∷ []) ≡ is_good v
+  unfolding is_good is_good_as decoder_of decoder_from same
+  second_good phase =
+      subst (λ (u : List ℕ). within u (7 ∷ 8 ∷ 0 ∷ 0 ∷ 1 ∷ 1 ∷ 0 ∷ []) ≡ is_good u) (sym (seven v whole))
+      (rw phase (sym (and_true _) ∙ heard (w 1) (w 2) (w 3) (w 4) (w 5) (w 6) 0 0 (truth_word (truth (w 4))) (truth_word (truth (w 5))) 0 (leb (w 2) 0) (leb (w 3) 0) (leb (w 4) 1) (leb (w 5) 1) (leb (w 6) 0) true false (zero_test (w 2)) (zero_test (w 3)) (truth_test (w 4)) (truth_test (w 5)) (rw (zero_test (w 6)))))

@@ -1,106 +1,86 @@
 -- What a call leaves of seven words: STATE of words that are not good, STOPPED of those of a stopped decoder, and
--- else what the
--- rules give.
+-- else what the rules give.
 -- Assumes nothing.
-use Prim.Native.Nat.{ℕ}
-use mathlib.Core.Path.{◌≡◌, refl, sym, ap, ◌∙◌}
-use mathlib.Core.Bool.{Bool, true, false, not, ◌&&◌, false≢true}
+use Prim.Native.Nat.{ℕ, zero, suc, ◌<◌, ◌≤◌}
+use mathlib.Core.Path.{◌≡◌, refl, sym, ap, subst, ◌∙◌}
+use mathlib.Core.Bool.{Bool, true, false, not, ◌&&◌, ◌||◌, true≢false, false≢true}
 use mathlib.Core.List.{List, [], ◌∷◌}
-use lib.Dec.{eqb}
+use native.Mathlib.Omega.{arith}
+use lib.Dec.{eqb, ltb}
 use borrow.Author.Tests.{ne_eqb}
+use Rattle.std.specs.Prelude.{Option, Result, Ok, Err, is_ok}
 use Rattle.vocabulary.specs.Choice.{pick}
-use Rattle.vocabulary.specs.Refusals.{STATE, STOPPED, test, first_of}
+use Rattle.vocabulary.specs.declared.Refusal.{Refusal}
+use Rattle.vocabulary.specs.Refusals.{STATE, STOPPED, number, test, first_of}
 use Rattle.words.specs.Words.{Left, word_at, truth, byte, same}
 use Rattle.words.proofs.SameLaws.{same_is}
-use Rattle.characters.specs.States.{Waiting, Hunting, Between, Parity, Data, Control, Second, Decoder, Fresh}
-use Rattle.characters.specs.States.{Heard, Stopped, Step}
-use Rattle.characters.specs.Decoder.{bit_step, tick_step}
-use Rattle.characters.specs.Refusals.{bad_decoder, is_stopped}
+use Rattle.characters.proofs.ChoiceLaws.{refusal_or}
+use Rattle.characters.specs.declared.phases.Phase as numbers
+use Rattle.characters.specs.declared.phases.Phase.TheVariants as the
+use Rattle.characters.specs.declared.reports.Report.{Report}
+use Rattle.characters.specs.declared.reports.Waiting.{Waiting}
+use Rattle.characters.specs.States.{Phase, Hunting, Between, Parity, Data, Control, Second, Decoder, Fresh, Heard, Stopped, Step}
+use Rattle.characters.specs.Reports.{report_words}
+use Rattle.characters.specs.Decoder.{bit_step, tick_step, silence}
+use Rattle.characters.specs.Refusals.{bad_waiting, bad_decoder, is_stopped}
 use Rattle.characters.specs.Calls.{bit_answer, tick_answer, decode_accepted, decode_refused}
-use Rattle.characters.specs.DecoderWords.{decoder_words, decoder_from, decoder_of, decoded, no_decoder, accepted, Leaves}
-use Rattle.characters.specs.DecoderWords.{waiting_of, bit_left, tick_left, is_good_as, is_good}
-use Rattle.characters.proofs.GoodLaws.{and_true}
-
--- what is left, by whether the words are the decoder's, whether its values are bad, and whether it is stopped
-abbrev left : List ℕ → Decoder → Step → Bool → Bool → Bool → Left
-left words d s own bad stopped =
-    let n = first_of (test STATE bad ∷ test STOPPED stopped ∷ []) in
-    pick own (decoded (pick (eqb n 0) (decode_accepted s) (decode_refused d n))) (no_decoder words)
-
-abbrev left_of : List ℕ → Decoder → Step → Left
-left_of words d s = left words d s (same words (decoder_words d)) (bad_decoder d) (is_stopped d)
+use Rattle.characters.specs.DecoderWords.{decoder_words, phase_words, decoder_from, decoder_of, decoded, no_decoder, accepted}
+use Rattle.characters.specs.DecoderWords.{phase_number, phase_numbered, waiting_of, bit_left, tick_left, is_decoder, is_good_as}
+use Rattle.characters.specs.DecoderWords.{is_good, Made, Takes}
 
 -- the words as they were, with this refusal
 abbrev kept : List ℕ → ℕ → Left
 kept words n = record { refusal = n; state = words; out = 0 ∷ 0 ∷ [] }
 
-own : (words : List ℕ) (d : Decoder) → same words (decoder_words d) ≡ true → decoder_words d ≡ words
-own words d p = sym (same_is words _ p)
-
-moves : (words : List ℕ) (d : Decoder) (s : Step) (mine bad : Bool) → (mine ≡ true → decoder_words d ≡ words) →
-    left words d s mine bad false ≡ pick (mine && not bad) (accepted s) (no_decoder words)
+-- what is left, by whether the words are the decoder's, whether its values are bad, and whether it is stopped
+by_tests : (words : List ℕ) (d : Decoder) (s : Step) (own bad stopped : Bool) → (own ≡ true → words ≡ decoder_words d) →
+    let n = first_of (test STATE bad ∷ test STOPPED stopped ∷ []) in
+    pick own (decoded (pick (eqb n 0) (decode_accepted s) (decode_refused d n))) (no_decoder words)
+    ≡ pick (own && not bad) (pick stopped (kept words 7) (accepted s)) (no_decoder words)
 unfolding decoded decode_refused no_decoder
-moves words d s false bad f = refl
-moves words d s true false f = refl
-moves words d s true true f = ap (λ (w : List ℕ). kept w 1) (f refl)
+by_tests words d s false bad stopped own = refl
+by_tests words d s true true stopped own = ap (λ (w : List ℕ). kept w 1) (sym (own refl))
+by_tests words d s true false true own = ap (λ (w : List ℕ). kept w 7) (sym (own refl))
+by_tests words d s true false false own = refl
 
-stands : (words : List ℕ) (d : Decoder) (s : Step) (mine bad : Bool) → (mine ≡ true → decoder_words d ≡ words) →
-    left words d s mine bad true ≡ kept words (pick (mine && not bad) 7 1)
-unfolding decoded decode_refused no_decoder
-stands words d s false bad f = refl
-stands words d s true false f = ap (λ (w : List ℕ). kept w 7) (f refl)
-stands words d s true true f = ap (λ (w : List ℕ). kept w 1) (f refl)
+module _ (words : List ℕ) where
+  abbrev d : Decoder
+  d = decoder_of words
 
-first_true : (a b : Bool) → a && b ≡ true → a ≡ true
-first_true true b e = refl
-first_true false b e = absurd (false≢true e)
+  abbrev left_of : Step → Left
+  left_of s = pick (is_good words) (pick (is_stopped d) (kept words 7) (accepted s)) (no_decoder words)
 
-module _ (words : List ℕ) (d : Decoder) (means : decoder_of words ≡ d) where
-  good_as : is_good words ≡ is_good_as words d
-  unfolding is_good
-  good_as = rw means
+  bit_tested : (b : ℕ) → bit_left words b ≡ left_of (bit_step d (truth b))
+  unfolding bit_left bit_answer is_good is_good_as
+  bit_tested b =
+      by_tests words d (bit_step d (truth b)) (is_decoder words) (bad_decoder d) (is_stopped d) (same_is words _)
 
-  -- words that were found good have the shape of the decoder that they mean, and a step leaves what the rules give
-  steps : {after : Left} (s : Step) (good : Bool) → good ≡ is_good words → is_stopped d ≡ false →
-      Leaves good words (decoder_words d) s after → after ≡ left_of words d s
-  unfolding is_good_as
-  steps s good found moving leaves =
-      let is = found ∙ good_as in
-      leaves (λ g. sym (own words d (first_true (same words (decoder_words d)) (not (bad_decoder d)) (sym is ∙ g))))
-      ∙ rw (is, moving) (sym (moves words d s (same words (decoder_words d)) (bad_decoder d) (own words d)))
+  tick_tested : tick_left words ≡ left_of (tick_step d)
+  unfolding tick_left tick_answer is_good is_good_as
+  tick_tested =
+      by_tests words d (tick_step d) (is_decoder words) (bad_decoder d) (is_stopped d) (same_is words _)
 
-  pub bit_left_lem : {after : Left} (b : ℕ) (t good : Bool) → t ≡ truth b → good ≡ is_good words → is_stopped d ≡ false →
-      Leaves good words (decoder_words d) (bit_step d t) after → after ≡ bit_left words b
-  unfolding bit_left bit_answer
-  bit_left_lem b t good one found moving leaves =
-      steps (bit_step d t) good found moving leaves ∙ sym (rw (means, ← one))
+  first_true : (a b : Bool) → a && b ≡ true → a ≡ true
+  first_true true b e = refl
+  first_true false b e = absurd (false≢true e)
 
-  pub tick_left_lem : {after : Left} (good : Bool) → good ≡ is_good words → is_stopped d ≡ false →
-      Leaves good words (decoder_words d) (tick_step d) after → after ≡ tick_left words
-  unfolding tick_left tick_answer
-  tick_left_lem good found moving leaves = steps (tick_step d) good found moving leaves ∙ sym (rw means)
+  pub own_words : is_good words ≡ true → words ≡ decoder_words d
+  unfolding is_good is_good_as
+  own_words good = same_is words _ (first_true (is_decoder words) (not (bad_decoder d)) good)
 
--- the words of a stopped decoder, if no other is used
-module _ (words : List ℕ) (phase : word_at words 0 ≡ 7) where
-  stopped_means : decoder_of words ≡ Stopped
-  unfolding decoder_of decoder_from
-  stopped_means = rw phase
+  pub own_values : is_good words ≡ true → bad_decoder d ≡ false
+  unfolding is_good is_good_as
+  own_values good = by (is_decoder words) (bad_decoder d) good
+    where
+      by : (own bad : Bool) → own && not bad ≡ true → bad ≡ false
+      by own false e = refl
+      by true true e = absurd (false≢true e)
+      by false true e = absurd (false≢true e)
 
-  abbrev unused : Bool
-  unused = same words (word_at words 0 ∷ 0 ∷ 0 ∷ 0 ∷ 0 ∷ 0 ∷ 0 ∷ [])
-
-  stopped_left : (s : Step) → kept words (pick unused 7 1) ≡ left_of words Stopped s
-  stopped_left s =
-      sym (stands words Stopped s (same words (decoder_words Stopped)) false (own words Stopped) ∙ rw
-      (phase, and_true (same words (decoder_words Stopped))))
-
-  pub bit_stopped : (b : ℕ) → kept words (pick unused 7 1) ≡ bit_left words b
-  unfolding bit_left bit_answer
-  bit_stopped b = stopped_left (bit_step Stopped (truth b)) ∙ sym (rw stopped_means)
-
-  pub tick_stopped : kept words (pick unused 7 1) ≡ tick_left words
-  unfolding tick_left tick_answer
-  tick_stopped = stopped_left (tick_step Stopped) ∙ sym (rw stopped_means)
+  made : (s : Step) {new : List ℕ} {report : Option Report} → Made s new report →
+      record { refusal = 0; state = new; out = report_words report } ≡ accepted s
+  unfolding decoded decode_accepted
+  made s (w, r) = rw (w, r)
 
 -- what words with the number of a phase mean
 module _ (words : List ℕ) where
@@ -112,6 +92,10 @@ module _ (words : List ℕ) where
 
   abbrev places : ℕ
   places = byte (word_at words 6)
+
+  pub stopped_means : word_at words 0 ≡ 7 → decoder_of words ≡ Stopped
+  unfolding decoder_of decoder_from
+  stopped_means h = rw h
 
   pub fresh_means : word_at words 0 ≡ 0 → decoder_of words ≡ Fresh
   unfolding decoder_of decoder_from
@@ -142,47 +126,148 @@ module _ (words : List ℕ) where
   unfolding decoder_of decoder_from
   second_means h = rw h
 
-pub fresh_stays : (words : List ℕ) (good : Bool) → Leaves good words (decoder_words Fresh) (tick_step Fresh)
-    (kept words (pick good 0 1))
-unfolding decoded decode_accepted no_decoder
-fresh_stays words true shape = ap (λ (w : List ℕ). kept w 0) (shape refl)
-fresh_stays words false shape = refl
+-- a phase is found by its number alone
+abbrev Numbered : ℕ → Result numbers.Phase Refusal → Type 0
+Numbered n (Ok p) = n ≡ phase_number p
+Numbered n (Err r) = (r ≡ STATE) × (8 ≤ n)
 
-pub fresh_good : (words : List ℕ) → word_at words 0 ≡ 0 →
-    same words (word_at words 0 ∷ 0 ∷ 0 ∷ 0 ∷ 0 ∷ 0 ∷ 0 ∷ []) ≡ is_good words
-unfolding is_good is_good_as decoder_of decoder_from
-fresh_good words phase = rw phase (sym (and_true (same words (decoder_words Fresh))))
+numbered : (n : ℕ) → Numbered n (phase_numbered n)
+numbered zero = refl
+numbered (suc zero) = refl
+numbered (suc (suc zero)) = refl
+numbered (suc (suc (suc zero))) = refl
+numbered (suc (suc (suc (suc zero)))) = refl
+numbered (suc (suc (suc (suc (suc zero))))) = refl
+numbered (suc (suc (suc (suc (suc (suc zero)))))) = refl
+numbered (suc (suc (suc (suc (suc (suc (suc zero))))))) = refl
+numbered (suc (suc (suc (suc (suc (suc (suc (suc n)))))))) = large (suc (suc (suc (suc (suc (suc (suc (suc n)))))))) (omega arith)
+  where
+    large : (n : ℕ) → 8 ≤ n → Numbered n (phase_numbered n)
+    large n h =
+        let none : (k : ℕ) → k < 8 → eqb n k ≡ false = λ k j. ne_eqb n k (λ e. omega (arith, e, h, j)) in
+        rw (
+          none 1 (omega arith),
+          none 2 (omega arith),
+          none 3 (omega arith),
+          none 4 (omega arith),
+          none 5 (omega arith),
+          none 6 (omega arith),
+          none 7 (omega arith),
+          none 0 (omega arith),
+        )
+        (refl, h)
 
--- a number that no phase has, as the last arm of a match has it
-abbrev NoPhase : ℕ → Type 0
-NoPhase n =
-    (((((((Unit {0} × (n ≡ 0 → ⊥)) × (n ≡ 1 → ⊥)) × (n ≡ 2 → ⊥)) × (n ≡ 3 → ⊥)) × (n ≡ 4 → ⊥)) × (n ≡ 5 → ⊥)) × (n ≡ 6 → ⊥)) × (n ≡ 7 → ⊥)
+module _ (words : List ℕ) (large : 8 ≤ word_at words 0) where
+  none : (k : ℕ) → k < 8 → eqb (word_at words 0) k ≡ false
+  none k h = ne_eqb (word_at words 0) k (λ e. omega (arith, e, h, large))
 
-module _ (words : List ℕ) (none : NoPhase (word_at words 0)) where
   none_means : decoder_of words ≡ Fresh
   unfolding decoder_of decoder_from
-  none_means = rw (
-    ne_eqb _ _ none.0.0.0.0.0.0.1,
-    ne_eqb _ _ none.0.0.0.0.0.1,
-    ne_eqb _ _ none.0.0.0.0.1,
-    ne_eqb _ _ none.0.0.0.1,
-    ne_eqb _ _ none.0.0.1,
-    ne_eqb _ _ none.0.1,
-    ne_eqb _ _ none.1,
-  )
+  none_means =
+      rw (
+        none 1 (omega arith),
+        none 2 (omega arith),
+        none 3 (omega arith),
+        none 4 (omega arith),
+        none 5 (omega arith),
+        none 6 (omega arith),
+        none 7 (omega arith),
+      )
 
-  unlike : same words (decoder_words Fresh) ≡ false
+  unlike : (v : List ℕ) → (word_at v 0 ≡ 0 → ⊥) → same v (decoder_words Fresh) ≡ false
   unfolding same
-  unlike = by words none.0.0.0.0.0.0.0.1
+  unlike [] h = refl
+  unlike (x ∷ v) h = rw (ne_eqb x 0 h)
+
+  none_good : is_good words ≡ false
+  unfolding is_good is_good_as
+  none_good = rw (none_means, unlike words (λ e. omega (arith, e, large)))
+
+-- the phase of good words
+module _ (words : List ℕ) where
+  abbrev found : Result numbers.Phase Refusal
+  found = pick (is_good words) (phase_numbered (word_at words 0)) (Err STATE)
+
+  found_good : {p : numbers.Phase} → found ≡ Ok p → (is_good words ≡ true) × (word_at words 0 ≡ phase_number p)
+  found_good {p} = by (is_good words) refl
     where
-      by : (v : List ℕ) → (word_at v 0 ≡ 0 → ⊥) → same v (decoder_words Fresh) ≡ false
-      by [] h = refl
-      by (x ∷ v) h = rw (ne_eqb x 0 h)
+      by : (good : Bool) → is_good words ≡ good → pick good (phase_numbered (word_at words 0)) (Err STATE) ≡ Ok p →
+          (is_good words ≡ true) × (word_at words 0 ≡ phase_number p)
+      by true g e = (g, subst (Numbered (word_at words 0)) e (numbered (word_at words 0)))
+      by false g e = absurd (false≢true (ap is_ok e))
 
-  pub bit_none : (b : ℕ) → no_decoder words ≡ bit_left words b
-  unfolding bit_left
-  bit_none b = sym (rw (none_means, unlike))
+  found_bad : {r : Refusal} → found ≡ Err r → (is_good words ≡ false) × (STATE ≡ r)
+  found_bad {r} = by (is_good words) refl
+    where
+      by : (good : Bool) → is_good words ≡ good → pick good (phase_numbered (word_at words 0)) (Err STATE) ≡ Err r →
+          (is_good words ≡ false) × (STATE ≡ r)
+      by true g e =
+          let told = subst (Numbered (word_at words 0)) e (numbered (word_at words 0)) in
+          (none_good words told.1, sym told.0)
+      by false g e = (g, ap (refusal_or STATE) e)
 
-  pub tick_none : no_decoder words ≡ tick_left words
-  unfolding tick_left
-  tick_none = sym (rw (none_means, unlike))
+  -- what a bit makes of them
+  pub bit_taken : (b : ℕ) {t : Bool} {p : numbers.Phase} {new : List ℕ} {report : Option Report} {e : Decoder} →
+      t ≡ truth b → found ≡ Ok p → (word_at words 0 ≡ phase_number p → decoder_of words ≡ e) → is_stopped e ≡ false →
+      (bad_decoder e ≡ false → Takes words e t new report) →
+      record { refusal = 0; state = new; out = report_words report } ≡ bit_left words b
+  bit_taken b one phase means moving takes =
+      let good = found_good phase in
+      let is = means good.1 in
+      made words _ (takes (sym (ap bad_decoder is) ∙ own_values words good.0) (own_words words good.0 ∙ ap decoder_words is))
+      ∙ sym (rw (bit_tested words b, good.0, is, moving, ← one))
+
+  -- what waits is neither bad nor too large
+  pub waiting_good : (silent : ℕ) (w : Waiting) → ltb 8 silent || bad_waiting w ≡ false → bad_waiting w ≡ false
+  waiting_good silent w e = by (ltb 8 silent) e
+    where
+      by : (long : Bool) → long || bad_waiting w ≡ false → bad_waiting w ≡ false
+      by true e = absurd (true≢false e)
+      by false e = e
+
+  pub bit_stopped : (b : ℕ) → found ≡ Ok the.Stopped → kept words 7 ≡ bit_left words b
+  bit_stopped b phase =
+      let good = found_good phase in
+      sym (rw (bit_tested words b, good.0, stopped_means words good.1))
+
+  pub bit_refused : (b : ℕ) {r : Refusal} → found ≡ Err r → kept words (number r) ≡ bit_left words b
+  unfolding no_decoder
+  bit_refused b none =
+      let bad = found_bad none in
+      sym (rw (bit_tested words b, bad.0, ← bad.1))
+
+  -- what a tick makes of them
+  tick_taken : {p : numbers.Phase} {new : List ℕ} {report : Option Report} {e : Decoder} → found ≡ Ok p →
+      (word_at words 0 ≡ phase_number p → decoder_of words ≡ e) → is_stopped e ≡ false →
+      (words ≡ decoder_words e → Made (tick_step e) new report) →
+      record { refusal = 0; state = new; out = report_words report } ≡ tick_left words
+  tick_taken phase means moving takes =
+      let good = found_good phase in
+      let is = means good.1 in
+      made words _ (takes (own_words words good.0 ∙ ap decoder_words is)) ∙ sym (rw (tick_tested words, good.0, is, moving))
+
+  pub tick_fresh : found ≡ Ok the.Fresh → kept words 0 ≡ tick_left words
+  tick_fresh phase = tick_taken phase (fresh_means words) refl (λ shape. (shape, refl))
+
+  pub tick_counted : (p : numbers.Phase) {new : List ℕ} {report : Option Report} → found ≡ Ok p → (p ≡ the.Fresh → ⊥) →
+      (p ≡ the.Stopped → ⊥) → ((q : Phase) (s : ℕ) → words ≡ phase_words q s → Made (silence q s) new report) →
+      record { refusal = 0; state = new; out = report_words report } ≡ tick_left words
+  tick_counted the.Fresh phase fresh stopped counts = absurd (fresh refl)
+  tick_counted the.Hunting phase fresh stopped counts = tick_taken phase (hunting_means words) refl (counts _ _)
+  tick_counted the.Between phase fresh stopped counts = tick_taken phase (between_means words) refl (counts _ _)
+  tick_counted the.Parity phase fresh stopped counts = tick_taken phase (parity_means words) refl (counts _ _)
+  tick_counted the.Data phase fresh stopped counts = tick_taken phase (data_means words) refl (counts _ _)
+  tick_counted the.Control phase fresh stopped counts = tick_taken phase (control_means words) refl (counts _ _)
+  tick_counted the.Second phase fresh stopped counts = tick_taken phase (second_means words) refl (counts _ _)
+  tick_counted the.Stopped phase fresh stopped counts = absurd (stopped refl)
+
+  pub tick_stopped : found ≡ Ok the.Stopped → kept words 7 ≡ tick_left words
+  tick_stopped phase =
+      let good = found_good phase in
+      sym (rw (tick_tested words, good.0, stopped_means words good.1))
+
+  pub tick_refused : {r : Refusal} → found ≡ Err r → kept words (number r) ≡ tick_left words
+  unfolding no_decoder
+  tick_refused none =
+      let bad = found_bad none in
+      sym (rw (tick_tested words, bad.0, ← bad.1))

@@ -1,4 +1,5 @@
 pub mod BitLaws
+pub mod ChoiceLaws
 pub mod WireLaws
 pub mod GoodLaws
 pub mod WaitingLaws

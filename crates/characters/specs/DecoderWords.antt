@@ -1,17 +1,23 @@
 -- The words of a decoder: what stands where, and what they mean. A word that a phase has no use for is 0.
 -- Assumes nothing.
-use Rattle.std.specs.Prelude.{ℕ, ◌<◌, ◌≡◌, Bool, true, not, ◌&&◌, List, [], ◌∷◌, eqb}
+use Rattle.std.specs.Prelude.{ℕ, ◌<◌, ◌≡◌, Bool, true, false, not, ◌&&◌, List, [], ◌∷◌, eqb, leb, Option, Result, Ok, Err}
 use Rattle.vocabulary.specs.Choice.{pick}
+use Rattle.vocabulary.specs.declared.Refusal.{Refusal}
 use Rattle.vocabulary.specs.Refusals.{STATE, number}
 use Rattle.vocabulary.specs.Tokens.{kind_of, value_of}
 use Rattle.words.specs.Words.{Left, Stays, word_at, truth_word, truth, byte, same}
 use Rattle.words.specs.Arguments.{token_of, FitsToken}
-use Rattle.characters.specs.States.{Report, Waiting, Reported, Whole, Esc, Phase, Hunting, Between, Parity, Data}
-use Rattle.characters.specs.States.{Control, Second, Decoder, Fresh, Heard, Stopped, Step, Decoded}
+use Rattle.characters.specs.declared.phases.Phase as numbers
+use Rattle.characters.specs.declared.phases.Phase.TheVariants as the
+use Rattle.characters.specs.declared.reports.Report.{Report}
+use Rattle.characters.specs.declared.reports.Waiting.{Waiting}
+use Rattle.characters.specs.declared.reports.Waiting.TheVariants.{Reported, Whole, Esc}
+use Rattle.characters.specs.States.{Phase, Hunting, Between, Parity, Data, Control, Second}
+use Rattle.characters.specs.States.{Decoder, Fresh, Heard, Stopped, Step, Decoded}
 use Rattle.characters.specs.Decoder.{bit_step}
-use Rattle.characters.specs.Reports.{report_kind, report_value}
+use Rattle.characters.specs.Reports.{report_words}
 use Rattle.characters.specs.Calls.{bit_answer, tick_answer, decode_accepted}
-use Rattle.characters.specs.Refusals.{bad_waiting, bad_decoder}
+use Rattle.characters.specs.Refusals.{bad_decoder}
 
 -- the number of the phase
 abbrev pub phase_at : ℕ
@@ -65,6 +71,28 @@ second_number = 6
 abbrev pub stopped_number : ℕ
 stopped_number = 7
 
+abbrev pub phase_number : numbers.Phase → ℕ
+phase_number the.Fresh = fresh_number
+phase_number the.Hunting = hunting_number
+phase_number the.Between = between_number
+phase_number the.Parity = parity_number
+phase_number the.Data = data_number
+phase_number the.Control = control_number
+phase_number the.Second = second_number
+phase_number the.Stopped = stopped_number
+
+-- the phase that has this number, if one has
+abbrev pub phase_numbered : ℕ → Result numbers.Phase Refusal
+phase_numbered n =
+    pick (eqb n hunting_number) (Ok the.Hunting)
+    (pick (eqb n between_number) (Ok the.Between)
+    (pick (eqb n parity_number) (Ok the.Parity)
+    (pick (eqb n data_number) (Ok the.Data)
+    (pick (eqb n control_number) (Ok the.Control)
+    (pick (eqb n second_number) (Ok the.Second)
+    (pick (eqb n stopped_number) (Ok the.Stopped)
+    (pick (eqb n fresh_number) (Ok the.Fresh) (Err STATE))))))))
+
 -- what waits: nothing, a token by its number and value, or an ESC
 abbrev pub esc_number : ℕ
 esc_number = 5
@@ -116,11 +144,9 @@ decoder_of words =
 abbrev pub is_decoder : List ℕ → Bool
 is_decoder words = same words (decoder_words (decoder_of words))
 
--- a number and a value of something that may wait
-abbrev pub is_waiting : ℕ → ℕ → Bool
-is_waiting n value =
-    eqb n (waiting_number (waiting_of n value)) && (eqb value (waiting_value (waiting_of n value)) && not
-    (bad_waiting (waiting_of n value)))
+-- the largest value that something with this number waits with: of an N-Char EEP, of a Time-Code eight bits
+abbrev pub most_value : ℕ → ℕ
+most_value n = pick (eqb n 3) 257 (pick (eqb n 4) 255 0)
 
 -- the words of this decoder, its fields with values that the rules give them
 unfoldable pub is_good_as : List ℕ → Decoder → Bool
@@ -130,10 +156,14 @@ is_good_as words d = same words (decoder_words d) && not (bad_decoder d)
 unfoldable pub is_good : List ℕ → Bool
 is_good words = is_good_as words (decoder_of words)
 
--- the two calls
-abbrev pub report_words : Report → List ℕ
-report_words r = report_kind r ∷ report_value r ∷ []
+-- as many words as there are places, and none above the largest that is allowed in its place
+abbrev pub within : List ℕ → List ℕ → Bool
+within [] [] = true
+within [] (m ∷ most) = false
+within (w ∷ words) [] = false
+within (w ∷ words) (m ∷ most) = leb w m && within words most
 
+-- the two calls
 unfoldable pub decoded : Decoded → Left
 decoded a = record { refusal = a.refusal; state = decoder_words a.decoder; out = report_words a.report }
 
@@ -143,13 +173,13 @@ no_decoder words = record { refusal = number STATE; state = words; out = 0 ∷ 0
 abbrev pub accepted : Step → Left
 accepted s = decoded (decode_accepted s)
 
--- what a step leaves of words that were found good or not: good ones have this shape
-abbrev pub Leaves : Bool → List ℕ → List ℕ → Step → Left → Type 0
-Leaves good words shape s left = (good ≡ true → words ≡ shape) → left ≡ pick good (accepted s) (no_decoder words)
+-- the words that a step leaves, and what it reports
+abbrev pub Made : Step → List ℕ → Option Report → Type 0
+Made s words report = (words ≡ decoder_words s.decoder) × (report ≡ s.report)
 
 -- the same, of a bit to this decoder
-abbrev pub Takes : Bool → List ℕ → Decoder → Bool → Left → Type 0
-Takes good words d b left = Leaves good words (decoder_words d) (bit_step d b) left
+abbrev pub Takes : List ℕ → Decoder → Bool → List ℕ → Option Report → Type 0
+Takes words d b new report = words ≡ decoder_words d → Made (bit_step d b) new report
 
 unfoldable pub bit_left : List ℕ → ℕ → Left
 bit_left words b = pick (is_decoder words) (decoded (bit_answer (decoder_of words) (truth b))) (no_decoder words)

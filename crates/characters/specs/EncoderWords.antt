@@ -6,7 +6,9 @@ use Rattle.vocabulary.specs.Refusals.{STATE, number}
 use Rattle.vocabulary.specs.declared.Token.{Token}
 use Rattle.words.specs.Words.{Left, Stays, word_at, truth_word, truth, same}
 use Rattle.words.specs.Arguments.{token_of}
+use Rattle.characters.specs.declared.encoder.Bits.{Bits}
 use Rattle.characters.specs.Calls.{encode_answer}
+use Rattle.characters.specs.Encoder.{sent}
 use Rattle.characters.specs.States.{Encoder, Encoded}
 
 abbrev pub encoder_words : Encoder → List ℕ
@@ -24,9 +26,16 @@ encoded a = record { refusal = a.refusal; state = encoder_words a.encoder; out =
 unfoldable pub no_encoder : List ℕ → Left
 no_encoder words = record { refusal = number STATE; state = words; out = 0 ∷ 0 ∷ [] }
 
--- what is left of the word of this encoder when it is handed this token
-abbrev pub Encodes : List ℕ → Encoder → Token → Left → Type 0
-Encodes words e t left = words ≡ encoder_words e → left ≡ encoded (encode_answer e t)
+abbrev pub bits_words : Bits → List ℕ
+bits_words b = b.bits ∷ b.count ∷ []
+
+abbrev pub no_bits : Bits
+no_bits = record { bits = 0; count = 0 }
+
+-- behind a body whose ones are odd or not this token leaves the ones odd or not, and is sent as these bits
+abbrev pub Sends : Bool → Token → Bool → Bits → Type 0
+Sends previous t odd b =
+    sent (record { odd = previous }) t ≡ record { refusal = 0; encoder = record { odd = odd }; bits = b.bits; count = b.count }
 
 unfoldable pub encode_left : List ℕ → ℕ → ℕ → Left
 encode_left words kind value =

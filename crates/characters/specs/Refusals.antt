@@ -5,8 +5,10 @@ use Rattle.vocabulary.specs.Refusals.{STATE, CHAR, STOPPED, Test, test, first_of
 use Rattle.vocabulary.specs.Tokens.{bad_char}
 use Rattle.vocabulary.specs.declared.Token.{Token}
 use Rattle.characters.specs.Decoder.{hunted_for}
-use Rattle.characters.specs.States.{Waiting, Reported, Whole, Esc, Phase, Hunting, Between, Parity, Data, Control}
-use Rattle.characters.specs.States.{Second, Decoder, Fresh, Heard, Stopped}
+use Rattle.characters.specs.declared.reports.Waiting.{Waiting}
+use Rattle.characters.specs.declared.reports.Waiting.TheVariants.{Reported, Whole, Esc}
+use Rattle.characters.specs.States.{Phase, Hunting, Between, Parity, Data, Control, Second}
+use Rattle.characters.specs.States.{Decoder, Fresh, Heard, Stopped}
 
 -- 1 STATE: "a decoder or encoder field outside the values its rules give it". An encoder has one bit, so it has none.
 

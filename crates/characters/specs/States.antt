@@ -1,21 +1,8 @@
 -- What the words of a decoder and of an encoder mean, and what is answered in those terms.
 -- Assumes nothing.
-use Rattle.std.specs.Prelude.{ℕ, Bool}
-use Rattle.vocabulary.specs.declared.Token.{Token}
-
-pub data Report : Type 0 where
-  Nothing : Report
-  Got : Token → Report
-  ParityError EscapeError Disconnect : Report
-
--- what the last character left to report
-pub data Waiting : Type 0 where
-  -- nothing: the first NULL was reported at once
-  Reported : Waiting
-  -- a token, once the next flag has closed its parity
-  Whole : Token → Waiting
-  -- half of a NULL or of a Time-Code
-  Esc : Waiting
+use Rattle.std.specs.Prelude.{ℕ, Bool, Option}
+use Rattle.characters.specs.declared.reports.Report.{Report}
+use Rattle.characters.specs.declared.reports.Waiting.{Waiting}
 
 -- where in a character the next bit falls
 pub data Phase : Type 0 where
@@ -42,12 +29,12 @@ pub data Decoder : Type 0 where
 
 pub record Step : Type 0 where
   pub decoder : Decoder
-  pub report : Report
+  pub report : Option Report
 
 pub record Decoded : Type 0 where
   pub refusal : ℕ
   pub decoder : Decoder
-  pub report : Report
+  pub report : Option Report
 
 -- whether the ones in the last body are odd in number: any value is a state
 pub record Encoder : Type 0 where

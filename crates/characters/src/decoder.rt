@@ -1,25 +1,26 @@
 // Bits to reports (01, Characters on the wire, Decoder), in place on the words of a decoder.
-ghost use Rattle.std.specs.Prelude.{ℕ, ◌≡◌, Bool, true, [], ◌∷◌, eqb};
-ghost use Rattle.vocabulary.specs.Choice.{pick};
-ghost use Rattle.vocabulary.specs.Refusals.{STATE, number as refusal_number};
+ghost use Rattle.std.specs.Prelude.{ℕ, ◌<◌, ◌≡◌, Bool, false, [], ◌∷◌, None, Some};
+ghost use Rattle.vocabulary.specs.Refusals.{refusal_in, answer_in};
 ghost use Rattle.words.specs.Words.{truth_word};
-ghost use Rattle.characters.specs.Bits.{odd};
-ghost use Rattle.characters.specs.Wire.{good_parity, n_char_character};
-ghost use Rattle.characters.specs.States.{Waiting, Phase, Decoder, Fresh, Stopped, Heard, Between, Parity, Data};
-ghost use Rattle.characters.specs.States.{Second, Nothing};
-ghost use Rattle.characters.specs.Decoder.{shifted, hunts, body_of, plain, second_bit, silence};
-ghost use Rattle.characters.specs.DecoderWords.{decoder_words, phase_words, FitsWaiting};
-ghost use Rattle.characters.specs.DecoderWords.{esc_number, accepted, Leaves, Takes, bit_left, tick_left};
+ghost use Rattle.characters.specs.declared.reports.Waiting.{Waiting};
+ghost use Rattle.characters.specs.Reports.{report_words};
+ghost use Rattle.characters.specs.States.{Phase as InPhase, Decoder, Fresh, Heard, Between, Parity, Data, Second};
+ghost use Rattle.characters.specs.Decoder.{stops, shifted, hunts, body_odd, body_of, closes, plain, silence};
+ghost use Rattle.characters.specs.Refusals.{bad_waiting};
+ghost use Rattle.characters.specs.DecoderWords.{decoder_words, phase_words, phase_number, waiting_number, waiting_value};
+ghost use Rattle.characters.specs.DecoderWords.{FitsWaiting, Made, Takes, bit_left, tick_left};
 
-use crate::kinds::{DISCONNECT, ESCAPE_ERROR, FCT, N_CHAR, NULL, PARITY_ERROR, TIME_CODE};
+use crate::phases::Phase;
+use crate::reports::{Report, Waiting};
 use crate::{bits, decoder_tests};
+use vocabulary::{EEP, EOP, Refusal, Token};
 
-// A decoder is so many words. What stands where, and the number of each phase, is said here.
+// A decoder is so many words. What stands where is said here.
 pub const WORDS: usize = 7;
 
 pub type Words = [u32; WORDS];
 
-const PHASE: usize = 0;
+pub(crate) const PHASE: usize = 0;
 
 // The ticks since the last bit.
 pub(crate) const SILENT: usize = 1;
@@ -38,22 +39,6 @@ pub(crate) const FIRST: usize = 5;
 // The eight places for bits.
 pub(crate) const PLACES: usize = 6;
 
-const FRESH: u32 = 0;
-
-const HUNTING: u32 = 1;
-
-const BETWEEN: u32 = 2;
-
-const PARITY: u32 = 3;
-
-const DATA: u32 = 4;
-
-const CONTROL: u32 = 5;
-
-const SECOND: u32 = 6;
-
-const STOPPED: u32 = 7;
-
 // What waits has the number of its token, or is nothing, or an ESC.
 pub(crate) const ESC: u32 = 5;
 
@@ -71,25 +56,31 @@ pub(crate) const MOST_SILENT: u32 = 8;
 pub fn fresh(words: &mut Words)
     ensures { words.new ≡ decoder_words Fresh }
 {
-    *words = [FRESH, 0, 0, 0, 0, 0, 0];
+    *words = [Phase::Fresh as u32, 0, 0, 0, 0, 0, 0];
 }
 
-fn stop(words: &mut Words)
-    ensures { words.new ≡ decoder_words Stopped }
+// After an error: it is reported, and nothing is heard from then on.
+#[tactic(auto, unfolding(crate::specs::Decoder::stops))]
+fn stop(words: &mut Words, error: Report) -> Option<Report>
+    ensures { Made (stops (Some error)) words.new result }
 {
-    *words = [STOPPED, 0, 0, 0, 0, 0, 0];
+    *words = [Phase::Stopped as u32, 0, 0, 0, 0, 0, 0];
+    Some(error)
 }
 
-// Nothing is reported. The answer is this number where the words are good, else STATE.
-fn stay(good: bool, number: u8, out: &mut [u32; 2]) -> u32
-    ensures { (result ≡ pick good number (refusal_number STATE)) × (out.new ≡ 0 ∷ 0 ∷ []) }
+// The next character begins; this much of the last waits.
+fn between(waiting: Waiting) -> Words
+    ensures { result ≡ phase_words (Between waiting) 0 }
 {
-    *out = [0, 0];
-    if good {
-        number as u32
-    } else {
-        vocabulary::STATE as u32
-    }
+    let (number, value) = match waiting {
+        Waiting::Reported => (0, 0),
+        Waiting::Whole(token) => (
+            u32::from(vocabulary::kind(token)),
+            u32::from(vocabulary::value(token)),
+        ),
+        Waiting::Esc => (ESC, 0),
+    };
+    [Phase::Between as u32, 0, number, value, 0, 0, 0]
 }
 
 fn shift(places: u32, b: bool) -> u32
@@ -98,53 +89,59 @@ fn shift(places: u32, b: bool) -> u32
     if b { places / 2 + 128 } else { places / 2 }
 }
 
-// Each of these takes a bit in its phase, where the words are good.
-fn hunt(good: bool, places: u32, words: &mut Words, b: bool, out: &mut [u32; 2]) -> u32
-    ensures { (k s p : ℕ) →
-        Leaves good words.old (k ∷ s ∷ 0 ∷ 0 ∷ 0 ∷ 0 ∷ p ∷ []) (hunts places b)
-        (record { refusal = result; state = words.new; out = out.new }) }
+// Each of these takes a bit in its phase.
+#[tactic(auto, unfolding(crate::specs::Decoder::hunts, crate::specs::Decoder::goes_on))]
+fn hunt(words: &mut Words, places: u32, b: bool) -> Option<Report>
+    ensures { Made (hunts places b) words.new result }
 {
-    if good {
-        let next = shift(places, b);
-        words[SILENT] = 0;
-        if next == HUNTED_FOR {
-            words[PHASE] = BETWEEN;
-            words[PLACES] = 0;
-            *out = [NULL, 0];
-            0
-        } else {
-            words[PHASE] = HUNTING;
-            words[PLACES] = next;
-            stay(true, 0, out)
-        }
+    let next = shift(places, b);
+    if next == HUNTED_FOR {
+        *words = between(Waiting::Reported);
+        Some(Report::Got(Token::Null))
     } else {
-        stay(false, 0, out)
+        *words = [Phase::Hunting as u32, 0, 0, 0, 0, 0, next];
+        None
     }
 }
 
 // A parity bit, or the first bit of a control body: it is kept, and the next phase is this one.
-fn keep_bit(good: bool, next: u32, words: &mut Words, b: bool, out: &mut [u32; 2]) -> u32
+fn keep_bit(words: &mut Words, next: Phase, b: bool) -> Option<Report>
     ensures { (k s n v e f p : ℕ) (d : Decoder) →
-        decoder_words d ≡ next ∷ 0 ∷ n ∷ v ∷ e ∷ truth_word b ∷ p ∷ [] →
-        Leaves good words.old (k ∷ s ∷ n ∷ v ∷ e ∷ f ∷ p ∷ []) (record { decoder = d; report = Nothing })
-        (record { refusal = result; state = words.new; out = out.new }) }
+        decoder_words d ≡ phase_number next ∷ 0 ∷ n ∷ v ∷ e ∷ truth_word b ∷ p ∷ [] →
+        words.old ≡ k ∷ s ∷ n ∷ v ∷ e ∷ f ∷ p ∷ [] →
+        Made (record { decoder = d; report = None }) words.new result }
 {
-    if good {
-        words[PHASE] = next;
-        words[SILENT] = 0;
-        words[FIRST] = words::truth_word(b);
-        stay(true, 0, out)
-    } else {
-        stay(false, 0, out)
+    words[PHASE] = next as u32;
+    words[SILENT] = 0;
+    words[FIRST] = words::truth_word(b);
+    None
+}
+
+// What waits, of the words of a decoder.
+fn waiting(number: u32, value: u32) -> Waiting
+    ensures { (w : Waiting) → FitsWaiting w → bad_waiting w ≡ false →
+        number ≡ waiting_number w → value ≡ waiting_value w → result ≡ w }
+{
+    match words::token_of(number, value) {
+        Ok(token) => Waiting::Whole(token),
+        Err(_) => {
+            if number == ESC {
+                Waiting::Esc
+            } else {
+                Waiting::Reported
+            }
+        }
     }
 }
 
-// A value below 256 is a body of eight bits, and 0, of what waits without a value, has no ones.
-fn good_parity(value: u32, p: bool, flag: bool) -> bool
-    ensures { result ≡ good_parity (odd (n_char_character value).body) p flag }
+fn body_odd(waiting: Waiting) -> bool
+    ensures { result ≡ body_odd waiting }
 {
-    let odd = bits::odd_n_char(value);
-    bits::differ_in(odd, bits::differ_in(p, flag))
+    match waiting {
+        Waiting::Whole(Token::NChar(n)) => bits::odd_n_char(n),
+        Waiting::Whole(Token::TimeCode(value)) => bits::odd_ones(value),
+        _ => false,
+    }
 }
 
 fn body(escape: bool, flag: bool) -> Words
@@ -152,175 +149,128 @@ fn body(escape: bool, flag: bool) -> Words
 {
     let esc = words::truth_word(escape);
     if flag {
-        [CONTROL, 0, 0, 0, esc, 0, 0]
+        [Phase::Control as u32, 0, 0, 0, esc, 0, 0]
     } else {
-        [DATA, 0, 0, 0, esc, 0, NO_DATA]
+        [Phase::Data as u32, 0, 0, 0, esc, 0, NO_DATA]
     }
 }
 
 // What waits is reported, unless it is nothing or an ESC.
-fn closed(waits: u32, value: u32) -> [u32; 2]
-    ensures { result ≡ pick (eqb waits esc_number) (0 ∷ 0 ∷ []) (waits ∷ value ∷ []) }
+fn closes(waiting: Waiting) -> Option<Report>
+    ensures { result ≡ closes waiting }
 {
-    if waits == ESC { [0, 0] } else { [waits, value] }
-}
-
-fn flag_bit(good: bool, words: &mut Words, flag: bool, out: &mut [u32; 2]) -> u32
-    ensures { (w : Waiting) (p : Bool) (s : ℕ) → FitsWaiting w →
-        Takes good words.old (Heard (Parity w p) s) flag
-        (record { refusal = result; state = words.new; out = out.new }) }
-{
-    if good {
-        let waits = words[WAITS];
-        let value = words[VALUE];
-        let p = words::truth(words[FIRST]);
-        if good_parity(value, p, flag) {
-            *words = body(waits == ESC, flag);
-            *out = closed(waits, value);
-            0
-        } else {
-            stop(words);
-            *out = [PARITY_ERROR, 0];
-            0
-        }
-    } else {
-        stay(false, 0, out)
+    match waiting {
+        Waiting::Whole(token) => Some(Report::Got(token)),
+        Waiting::Reported | Waiting::Esc => None,
     }
 }
 
-fn data_number(escape: bool) -> u32
-    ensures { result ≡ pick escape 4 3 }
+#[tactic(auto, unfolding(crate::specs::Decoder::flagged, crate::specs::Decoder::goes_on))]
+fn flag_bit(words: &mut Words, flag: bool) -> Option<Report>
+    ensures { (w : Waiting) (p : Bool) (s : ℕ) → FitsWaiting w → bad_waiting w ≡ false →
+        Takes words.old (Heard (Parity w p) s) flag words.new result }
 {
-    if escape { TIME_CODE } else { N_CHAR }
-}
-
-fn data_bit(good: bool, words: &mut Words, b: bool, out: &mut [u32; 2]) -> u32
-    ensures { (e : Bool) (p s : ℕ) → Takes good words.old (Heard (Data e p) s) b
-        (record { refusal = result; state = words.new; out = out.new }) }
-{
-    if good {
-        let places = words[PLACES];
-        let next = shift(places, b);
-        if places % 2 == 1 {
-            let number = data_number(words::truth(words[ESCAPE]));
-            *words = [BETWEEN, 0, number, next, 0, 0, 0];
-            stay(true, 0, out)
-        } else {
-            words[SILENT] = 0;
-            words[PLACES] = next;
-            stay(true, 0, out)
-        }
+    let waiting = waiting(words[WAITS], words[VALUE]);
+    let p = words::truth(words[FIRST]);
+    if body_odd(waiting) ^ p ^ flag {
+        *words = body(matches!(waiting, Waiting::Esc), flag);
+        closes(waiting)
     } else {
-        stay(false, 0, out)
+        stop(words, Report::ParityError)
     }
 }
 
-fn plain_control(a: bool, b: bool) -> Words
-    ensures { result ≡ phase_words (Between (plain a b)) 0 }
+// A data bit: the eighth makes a whole that waits.
+#[tactic(auto, unfolding(crate::specs::Decoder::data_bit, crate::specs::Decoder::goes_on))]
+fn data_bit(words: &mut Words, b: bool) -> Option<Report>
+    ensures { (e : Bool) (p s : ℕ) → p < 256 →
+        Takes words.old (Heard (Data e p) s) b words.new result }
 {
-    if a {
-        if b {
-            [BETWEEN, 0, ESC, 0, 0, 0, 0]
+    let places = words[PLACES];
+    let next = shift(places, b);
+    if places % 2 == 1 {
+        let value = words::byte(next);
+        let token = if words::truth(words[ESCAPE]) {
+            Token::TimeCode(value)
         } else {
-            [BETWEEN, 0, N_CHAR, 257, 0, 0, 0]
-        }
+            Token::NChar(u16::from(value))
+        };
+        *words = between(Waiting::Whole(token));
     } else {
-        if b {
-            [BETWEEN, 0, N_CHAR, 256, 0, 0, 0]
-        } else {
-            [BETWEEN, 0, FCT, 0, 0, 0, 0]
-        }
+        words[SILENT] = 0;
+        words[PLACES] = next;
+    }
+    None
+}
+
+fn plain(a: bool, b: bool) -> Waiting
+    ensures { result ≡ plain a b }
+{
+    match (a, b) {
+        (false, false) => Waiting::Whole(Token::Fct),
+        (false, true) => Waiting::Whole(Token::NChar(EOP)),
+        (true, false) => Waiting::Whole(Token::NChar(EEP)),
+        (true, true) => Waiting::Esc,
     }
 }
 
-fn escaped_control(words: &mut Words, a: bool, b: bool, out: &mut [u32; 2]) -> u32
-    ensures { record { refusal = result; state = words.new; out = out.new }
-        ≡ accepted (second_bit true a b) }
+#[tactic(auto, unfolding(crate::specs::Decoder::goes_on))]
+fn second_bit(words: &mut Words, b: bool) -> Option<Report>
+    ensures { (e a : Bool) (s : ℕ) → Takes words.old (Heard (Second e a) s) b words.new result }
 {
-    if a | b {
-        stop(words);
-        *out = [ESCAPE_ERROR, 0];
-        0
-    } else {
-        *words = [BETWEEN, 0, NULL, 0, 0, 0, 0];
-        stay(true, 0, out)
-    }
+    let a = words::truth(words[FIRST]);
+    let waiting = match (words::truth(words[ESCAPE]), a | b) {
+        (false, _) => plain(a, b),
+        (true, false) => Waiting::Whole(Token::Null),
+        (true, true) => return stop(words, Report::EscapeError),
+    };
+    *words = between(waiting);
+    None
 }
 
-fn second_bit(good: bool, words: &mut Words, b: bool, out: &mut [u32; 2]) -> u32
-    ensures { (e a : Bool) (s : ℕ) → Takes good words.old (Heard (Second e a) s) b
-        (record { refusal = result; state = words.new; out = out.new }) }
-{
-    if good {
-        let a = words::truth(words[FIRST]);
-        if words::truth(words[ESCAPE]) {
-            escaped_control(words, a, b, out)
-        } else {
-            *words = plain_control(a, b);
-            stay(true, 0, out)
-        }
-    } else {
-        stay(false, 0, out)
-    }
-}
-
-// One bit, any number but 0 for a one: `out` gets the number and the value of the report. On the last of 01110100 from
-// fresh that is 1 and 0, NULL.
-pub fn bit(words: &mut Words, bit: u32, out: &mut [u32; 2]) -> u32
-    ensures { record { refusal = result; state = words.new; out = out.new }
+// One bit, any number but 0 for a one, and what it makes the decoder report: on the last of 01110100 from fresh NULL.
+pub fn bit(words: &mut Words, bit: u32) -> Result<Option<Report>, Refusal>
+    ensures { record { refusal = refusal_in result; state = words.new; out = report_words (answer_in None result) }
         ≡ bit_left words.old bit }
 {
     let b = words::truth(bit);
-    match words[PHASE] {
-        FRESH => hunt(decoder_tests::unused(words), NO_BITS, words, b, out),
-        HUNTING => {
-            let places = words::byte(words[PLACES]) as u32;
-            hunt(decoder_tests::hunting(words), places, words, b, out)
+    match decoder_tests::phase_of(*words)? {
+        Phase::Fresh => Ok(hunt(words, NO_BITS, b)),
+        Phase::Hunting => {
+            let places = words[PLACES];
+            Ok(hunt(words, places, b))
         }
-        BETWEEN => keep_bit(decoder_tests::between(words), PARITY, words, b, out),
-        PARITY => flag_bit(decoder_tests::parity(words), words, b, out),
-        DATA => data_bit(decoder_tests::data(words), words, b, out),
-        CONTROL => keep_bit(decoder_tests::control(words), SECOND, words, b, out),
-        SECOND => second_bit(decoder_tests::second(words), words, b, out),
-        STOPPED => stay(decoder_tests::unused(words), vocabulary::STOPPED, out),
-        _ => stay(false, 0, out),
+        Phase::Between => Ok(keep_bit(words, Phase::Parity, b)),
+        Phase::Parity => Ok(flag_bit(words, b)),
+        Phase::Data => Ok(data_bit(words, b)),
+        Phase::Control => Ok(keep_bit(words, Phase::Second, b)),
+        Phase::Second => Ok(second_bit(words, b)),
+        Phase::Stopped => Err(Refusal::Stopped),
     }
 }
 
-// One more tick of a silence, where the words are good.
-fn silent_tick(good: bool, words: &mut Words, out: &mut [u32; 2]) -> u32
-    ensures { (p : Phase) (s : ℕ) → Leaves good words.old (phase_words p s) (silence p s)
-        (record { refusal = result; state = words.new; out = out.new }) }
+// One more tick of a silence.
+#[tactic(auto, unfolding(crate::specs::Decoder::silence))]
+fn silent_tick(words: &mut Words) -> Option<Report>
+    ensures { (p : InPhase) (s : ℕ) → words.old ≡ phase_words p s → Made (silence p s) words.new result }
 {
-    if good {
-        let silent = words[SILENT];
-        if silent < MOST_SILENT {
-            words[SILENT] = silent + 1;
-            stay(true, 0, out)
-        } else {
-            stop(words);
-            *out = [DISCONNECT, 0];
-            0
-        }
+    let silent = words[SILENT];
+    if silent < MOST_SILENT {
+        words[SILENT] = silent + 1;
+        None
     } else {
-        stay(false, 0, out)
+        stop(words, Report::Disconnect)
     }
 }
 
-// One tick: `out` gets the number and the value of the report. The ninth in a row behind a bit reports 7, disconnect.
-pub fn tick(words: &mut Words, out: &mut [u32; 2]) -> u32
-    ensures { record { refusal = result; state = words.new; out = out.new }
+// One tick, and what it makes the decoder report: the ninth in a row behind a bit disconnects.
+pub fn tick(words: &mut Words) -> Result<Option<Report>, Refusal>
+    ensures { record { refusal = refusal_in result; state = words.new; out = report_words (answer_in None result) }
         ≡ tick_left words.old }
 {
-    match words[PHASE] {
-        FRESH => stay(decoder_tests::unused(words), 0, out),
-        HUNTING => silent_tick(decoder_tests::hunting(words), words, out),
-        BETWEEN => silent_tick(decoder_tests::between(words), words, out),
-        PARITY => silent_tick(decoder_tests::parity(words), words, out),
-        DATA => silent_tick(decoder_tests::data(words), words, out),
-        CONTROL => silent_tick(decoder_tests::control(words), words, out),
-        SECOND => silent_tick(decoder_tests::second(words), words, out),
-        STOPPED => stay(decoder_tests::unused(words), vocabulary::STOPPED, out),
-        _ => stay(false, 0, out),
+    match decoder_tests::phase_of(*words)? {
+        Phase::Fresh => Ok(None),
+        Phase::Stopped => Err(Refusal::Stopped),
+        _ => Ok(silent_tick(words)),
     }
 }

@@ -1,116 +1,72 @@
-// Whether words with the number of a phase are those of a decoder that a call could have left, phase by phase. A word
-// that a phase has no use for is 0.
-ghost use Rattle.std.specs.Prelude.{◌≡◌, [], ◌∷◌, eqb, length};
-ghost use Rattle.words.specs.Words.{word_at, same};
-ghost use Rattle.characters.specs.DecoderWords.{is_waiting, is_good, phase_at, hunting_number, between_number};
-ghost use Rattle.characters.specs.DecoderWords.{parity_number, data_number, control_number, second_number};
+// Whether words are those of a decoder that a call could have left. A word that a phase has no use for is 0.
+ghost use Rattle.std.specs.Prelude.{◌≡◌, Err};
+ghost use Rattle.vocabulary.specs.Choice.{pick};
+ghost use Rattle.vocabulary.specs.Refusals.{STATE};
+ghost use Rattle.words.specs.Words.{word_at};
+ghost use Rattle.characters.specs.DecoderWords.{most_value, is_good, within, phase_at, phase_number, phase_numbered};
 
 use crate::decoder::{
-    ESC, ESCAPE, FIRST, HUNTED_FOR, MOST_SILENT, PLACES, SILENT, VALUE, WAITS, WORDS, Words,
+    ESC, ESCAPE, FIRST, HUNTED_FOR, MOST_SILENT, PHASE, PLACES, SILENT, VALUE, WAITS, Words,
 };
-use crate::kinds::{N_CHAR, TIME_CODE};
+use crate::phases::Phase;
+use vocabulary::Refusal;
 
-// Nothing, NULL, FCT and ESC wait with the value 0.
-fn is_waiting(number: u32, value: u32) -> bool
-    ensures { result ≡ is_waiting number value }
+// No word is above the largest that is allowed in its place.
+fn within(words: Words, most: Words) -> bool
+    ensures { result ≡ within words most }
+{
+    (words[PHASE] <= most[PHASE])
+        & (words[SILENT] <= most[SILENT])
+        & (words[WAITS] <= most[WAITS])
+        & (words[VALUE] <= most[VALUE])
+        & (words[ESCAPE] <= most[ESCAPE])
+        & (words[FIRST] <= most[FIRST])
+        & (words[PLACES] <= most[PLACES])
+}
+
+// The largest value that something with this number waits with. Nothing, NULL, FCT and ESC wait with the value 0.
+fn most_value(number: u32) -> u32
+    ensures { result ≡ most_value number }
 {
     match number {
-        N_CHAR => value < 258,
-        TIME_CODE => value < 256,
-        _ => (number <= ESC) & (value == 0),
+        3 => 257,
+        4 => 255,
+        _ => 0,
     }
 }
 
-// The type says so: here it becomes a fact about what is lent.
-fn whole(words: &[u32]) -> bool
-    ensures { result ≡ eqb (length words.now) 7 }
+fn fits(phase: Phase, words: Words) -> bool
+    requires { word_at words phase_at ≡ phase_number phase }
+    ensures { result ≡ is_good words }
 {
-    words.len() == WORDS
+    match phase {
+        Phase::Fresh | Phase::Stopped => within(words, [7, 0, 0, 0, 0, 0, 0]),
+        Phase::Hunting => {
+            within(words, [7, MOST_SILENT, 0, 0, 0, 0, 255]) & (words[PLACES] != HUNTED_FOR)
+        }
+        Phase::Between => {
+            within(
+                words,
+                [7, MOST_SILENT, ESC, most_value(words[WAITS]), 0, 0, 0],
+            )
+        }
+        Phase::Parity => {
+            within(
+                words,
+                [7, MOST_SILENT, ESC, most_value(words[WAITS]), 0, 1, 0],
+            )
+        }
+        Phase::Data => { within(words, [7, MOST_SILENT, 0, 0, 1, 0, 255]) & (words[PLACES] != 0) }
+        Phase::Control => within(words, [7, MOST_SILENT, 0, 0, 1, 0, 0]),
+        Phase::Second => within(words, [7, MOST_SILENT, 0, 0, 1, 1, 0]),
+    }
 }
 
-// No word but the phase is used, before the first bit or after an error.
-pub(crate) fn unused(words: &Words) -> bool
-    ensures { result
-        ≡ same words.now (word_at words.now phase_at ∷ 0 ∷ 0 ∷ 0 ∷ 0 ∷ 0 ∷ 0 ∷ []) }
+// The phase of good words; any others are refused.
+pub(crate) fn phase_of(words: Words) -> Result<Phase, Refusal>
+    ensures { result ≡ pick (is_good words) (phase_numbered (word_at words phase_at)) (Err STATE) }
 {
-    let own = whole(words)
-        & (words[SILENT] == 0)
-        & (words[ESCAPE] == 0)
-        & (words[FIRST] == 0)
-        & (words[PLACES] == 0);
-    own & ((words[WAITS] == 0) & (words[VALUE] == 0))
-}
-
-pub(crate) fn hunting(words: &Words) -> bool
-    requires { word_at words.now phase_at ≡ hunting_number }
-    ensures { result ≡ is_good words.now }
-{
-    let places = words[PLACES];
-    let own = whole(words)
-        & (words[SILENT] <= MOST_SILENT)
-        & (words[ESCAPE] == 0)
-        & (words[FIRST] == 0)
-        & (places < 256);
-    own & ((words[WAITS] == 0) & ((words[VALUE] == 0) & (places != HUNTED_FOR)))
-}
-
-pub(crate) fn between(words: &Words) -> bool
-    requires { word_at words.now phase_at ≡ between_number }
-    ensures { result ≡ is_good words.now }
-{
-    let own = whole(words)
-        & (words[SILENT] <= MOST_SILENT)
-        & (words[ESCAPE] == 0)
-        & (words[FIRST] == 0)
-        & (words[PLACES] == 0);
-    own & is_waiting(words[WAITS], words[VALUE])
-}
-
-pub(crate) fn parity(words: &Words) -> bool
-    requires { word_at words.now phase_at ≡ parity_number }
-    ensures { result ≡ is_good words.now }
-{
-    let own = whole(words)
-        & (words[SILENT] <= MOST_SILENT)
-        & (words[ESCAPE] == 0)
-        & (words[FIRST] < 2)
-        & (words[PLACES] == 0);
-    own & is_waiting(words[WAITS], words[VALUE])
-}
-
-pub(crate) fn data(words: &Words) -> bool
-    requires { word_at words.now phase_at ≡ data_number }
-    ensures { result ≡ is_good words.now }
-{
-    let places = words[PLACES];
-    let own = whole(words)
-        & (words[SILENT] <= MOST_SILENT)
-        & (words[ESCAPE] < 2)
-        & (words[FIRST] == 0)
-        & (places < 256);
-    own & ((words[WAITS] == 0) & ((words[VALUE] == 0) & (places != 0)))
-}
-
-pub(crate) fn control(words: &Words) -> bool
-    requires { word_at words.now phase_at ≡ control_number }
-    ensures { result ≡ is_good words.now }
-{
-    let own = whole(words)
-        & (words[SILENT] <= MOST_SILENT)
-        & (words[ESCAPE] < 2)
-        & (words[FIRST] == 0)
-        & (words[PLACES] == 0);
-    own & ((words[WAITS] == 0) & (words[VALUE] == 0))
-}
-
-pub(crate) fn second(words: &Words) -> bool
-    requires { word_at words.now phase_at ≡ second_number }
-    ensures { result ≡ is_good words.now }
-{
-    let own = whole(words)
-        & (words[SILENT] <= MOST_SILENT)
-        & (words[ESCAPE] < 2)
-        & (words[FIRST] < 2)
-        & (words[PLACES] == 0);
-    own & ((words[WAITS] == 0) & (words[VALUE] == 0))
+    let phase = Phase::try_from(words[PHASE])?;
+    vocabulary::refuse(!fits(phase, words), Refusal::State)?;
+    Ok(phase)
 }

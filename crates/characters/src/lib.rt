@@ -5,4 +5,5 @@ pub mod bits;
 pub mod decoder;
 mod decoder_tests;
 pub mod encoder;
-pub mod kinds;
+pub mod phases;
+pub mod reports;
