@@ -4,8 +4,26 @@
 #![tactic(auto)]
 
 use link::calls;
+use link::calls::Sent;
 use link::fields::{STATE, TIME_WORDS, TimeWords, WORDS, Words};
-use std::io;
+use std::{fmt, io};
+use vocabulary::Refusal;
+
+// The decoder's numbers of the two faults.
+const PARITY_ERROR: u32 = 5;
+
+const DISCONNECT: u32 = 7;
+
+// What a host is to put: a whole packet, and the beginning of another.
+const N_CHARS: [u32; 3] = [65, 256, 66];
+
+// The refusal's number, 0 for none, and what was answered, 0 where it is refused.
+fn said(answered: Result<u32, Refusal>) -> (u32, u32) {
+    match answered {
+        Ok(answer) => (0, answer),
+        Err(refusal) => (u32::from(refusal), 0),
+    }
+}
 
 // One end as its host keeps it: the words of its state, and the places of its two stores.
 #[derive(Clone, Copy)]
@@ -23,164 +41,131 @@ impl End {
             tx: [0; 16],
         }
     }
-}
 
-fn say(rt: &impl Print, text: &str) -> io::Result<()> {
-    rt.print(text)
-}
+    // A fresh end with LinkStart on.
+    fn start(&mut self) {
+        calls::fresh(&mut self.words);
+        let _ = calls::control(&mut self.words, &mut self.rx, &self.tx, 0, 1, 0);
+    }
 
-fn say_number(rt: &impl Print, n: u32) -> io::Result<()> {
-    rt.print(n)
-}
+    fn ticks(&mut self, count: u32) {
+        for _ in 0..count {
+            let _ = calls::tick(&mut self.words, &mut self.rx, &self.tx);
+        }
+    }
 
-fn say_states(rt: &impl Print, near: &End, far: &End) -> io::Result<()> {
-    say(rt, ": near in state ")?;
-    say_number(rt, near.words[STATE])?;
-    say(rt, ", far in state ")?;
-    say_number(rt, far.words[STATE])?;
-    say(rt, "\n")
-}
+    // The token that is due goes to the other end; `time` is the bench's one time record.
+    fn pass(&mut self, other: &mut End, time: &mut TimeWords) {
+        if let Ok(
+            Sent {
+                token: Some(token),
+                ..
+            },
+        ) = calls::send(&mut self.words, &mut self.rx, &self.tx)
+        {
+            let kind = u32::from(vocabulary::kind(token));
+            let value = u32::from(vocabulary::value(token));
+            let _ = calls::receive(
+                &mut other.words,
+                &mut other.rx,
+                &other.tx,
+                time,
+                kind,
+                value,
+            );
+        }
+    }
 
-// `count` ticks to one end.
-fn ticks(end: &mut End, count: u32) {
-    let mut out = [0u32; 1];
-    for _ in 0..count {
-        calls::tick(&mut end.words, &mut end.rx, &end.tx, &mut out);
+    fn put_all(&mut self, rt: &impl Print) -> io::Result<()> {
+        for n in N_CHARS {
+            let (refusal, discarded) = said(calls::put(&mut self.words, &mut self.tx, n));
+            println!(rt; "put {n}: refusal {refusal}, discarded {discarded}")?;
+        }
+        Ok(())
+    }
+
+    fn take(&mut self, rt: &impl Print) -> io::Result<()> {
+        let (refusal, n) = said(calls::take(&mut self.words, &self.rx).map(u32::from));
+        println!(rt; "take: refusal {refusal}, N-Char {n}")
+    }
+
+    fn fault(&mut self, kind: u32) {
+        let _ = calls::fault(&mut self.words, &mut self.rx, &self.tx, kind);
     }
 }
 
-// One token from the near end to the far end; `time` is the bench's one time record.
-fn pass(near: &mut End, far: &mut End, time: &mut TimeWords) {
-    let mut sent = [0u32; 3];
-    let mut got = [0u32; 2];
-    calls::send(&mut near.words, &mut near.rx, &near.tx, &mut sent);
-    let kind = sent[1];
-    let value = sent[2];
-    if kind != 0 {
-        calls::receive(
-            &mut far.words,
-            &mut far.rx,
-            &far.tx,
+// The two ends, and the time record that they share.
+#[derive(Drop)]
+struct Bench {
+    near: End,
+    far: End,
+    time: TimeWords,
+}
+
+impl fmt::Display for Bench {
+    fn fmt<W: fmt::Write>(&self, f: &mut fmt::Formatter<W>) -> fmt::Result {
+        let near = self.near.words[STATE];
+        let far = self.far.words[STATE];
+        write!(f, "near in state {near}, far in state {far}")
+    }
+}
+
+impl Bench {
+    fn new() -> Bench {
+        let mut time = [0; TIME_WORDS];
+        calls::fresh_time(&mut time);
+        Bench {
+            near: End::new(),
+            far: End::new(),
             time,
-            kind,
-            value,
-            &mut got,
-        );
+        }
     }
-}
 
-// `count` tokens each way.
-fn exchange(
-    rt: &impl Print,
-    near: &mut End,
-    far: &mut End,
-    time: &mut TimeWords,
-    count: u32,
-) -> io::Result<()> {
-    for _ in 0..count {
-        pass(near, far, time);
-        pass(far, near, time);
+    // Both ends from fresh to Started.
+    fn start(&mut self, rt: &impl Print) -> io::Result<()> {
+        self.near.start();
+        self.far.start();
+        println!(rt; "fresh, LinkStart: {self}")?;
+        self.near.ticks(193);
+        self.far.ticks(193);
+        println!(rt; "193 ticks: {self}")
     }
-    say_number(rt, count)?;
-    say(rt, " tokens each way")?;
-    say_states(rt, near, far)
-}
 
-fn put(rt: &impl Print, end: &mut End, n: u32) -> io::Result<()> {
-    let mut out = [0u32; 1];
-    let refusal = calls::put(&mut end.words, &mut end.tx, n, &mut out);
-    say(rt, "put ")?;
-    say_number(rt, n)?;
-    say(rt, ": refusal ")?;
-    say_number(rt, refusal)?;
-    say(rt, ", discarded ")?;
-    say_number(rt, out[0])?;
-    say(rt, "\n")
-}
+    // `count` tokens each way.
+    fn exchange(&mut self, rt: &impl Print, count: u32) -> io::Result<()> {
+        for _ in 0..count {
+            self.near.pass(&mut self.far, &mut self.time);
+            self.far.pass(&mut self.near, &mut self.time);
+        }
+        println!(rt; "{count} tokens each way: {self}")
+    }
 
-fn take(rt: &impl Print, end: &mut End) -> io::Result<()> {
-    let mut out = [0u32; 2];
-    let refusal = calls::take(&mut end.words, &end.rx, &mut out);
-    say(rt, "take: refusal ")?;
-    say_number(rt, refusal)?;
-    say(rt, ", N-Char ")?;
-    say_number(rt, out[1])?;
-    say(rt, "\n")
-}
+    fn packet_over(&mut self, rt: &impl Print) -> io::Result<()> {
+        self.near.put_all(rt)?;
+        self.exchange(rt, 6)?;
+        for _ in N_CHARS {
+            self.far.take(rt)?;
+        }
+        Ok(())
+    }
 
-// A fresh end with LinkStart on.
-fn start(end: &mut End) {
-    let mut out = [0u32; 1];
-    calls::fresh(&mut end.words);
-    calls::control(&mut end.words, &mut end.rx, &end.tx, 0, 1, 0, &mut out);
-}
-
-// A whole packet, and the beginning of another.
-fn put_three(rt: &impl Print, end: &mut End) -> io::Result<()> {
-    put(rt, end, 65)?;
-    put(rt, end, 256)?;
-    put(rt, end, 66)
-}
-
-fn take_three(rt: &impl Print, end: &mut End) -> io::Result<()> {
-    take(rt, end)?;
-    take(rt, end)?;
-    take(rt, end)
-}
-
-// The far end goes down in mid-packet by a parity error, number 5, and its host finds the packet closed.
-fn far_fails(rt: &impl Print, end: &mut End) -> io::Result<()> {
-    let mut out = [0u32; 1];
-    calls::fault(&mut end.words, &mut end.rx, &end.tx, 5, &mut out);
-    say(rt, "a parity error at the far end\n")?;
-    take(rt, end)
-}
-
-// So does the near end by a disconnect, number 7, and the rest of its packet is discarded through the end.
-fn near_fails(rt: &impl Print, end: &mut End) -> io::Result<()> {
-    let mut out = [0u32; 1];
-    calls::fault(&mut end.words, &mut end.rx, &end.tx, 7, &mut out);
-    say(rt, "a disconnect at the near end\n")?;
-    put_three(rt, end)
-}
-
-// Both ends from fresh to Started.
-fn start_both(rt: &impl Print, near: &mut End, far: &mut End) -> io::Result<()> {
-    start(near);
-    start(far);
-    say(rt, "fresh, LinkStart")?;
-    say_states(rt, near, far)?;
-    ticks(near, 193);
-    ticks(far, 193);
-    say(rt, "193 ticks")?;
-    say_states(rt, near, far)
-}
-
-fn packet_over(
-    rt: &impl Print,
-    near: &mut End,
-    far: &mut End,
-    time: &mut TimeWords,
-) -> io::Result<()> {
-    put_three(rt, near)?;
-    exchange(rt, near, far, time, 6)?;
-    take_three(rt, far)
-}
-
-fn both_fail(rt: &impl Print, near: &mut End, far: &mut End) -> io::Result<()> {
-    far_fails(rt, far)?;
-    near_fails(rt, near)?;
-    say(rt, "at the end")?;
-    say_states(rt, near, far)
+    // The far end goes down in mid-packet, and its host finds the packet closed. So does the near end, and
+    // the rest of its packet is discarded through the end.
+    fn both_fail(&mut self, rt: &impl Print) -> io::Result<()> {
+        self.far.fault(PARITY_ERROR);
+        println!(rt; "a parity error at the far end")?;
+        self.far.take(rt)?;
+        self.near.fault(DISCONNECT);
+        println!(rt; "a disconnect at the near end")?;
+        self.near.put_all(rt)?;
+        println!(rt; "at the end: {self}")
+    }
 }
 
 fn main(rt: HostRuntime) -> io::Result<()> {
-    let mut near = End::new();
-    let mut far = End::new();
-    let mut time = [0u32; TIME_WORDS];
-    calls::fresh_time(&mut time);
-    start_both(&rt, &mut near, &mut far)?;
-    exchange(&rt, &mut near, &mut far, &mut time, 4)?;
-    packet_over(&rt, &mut near, &mut far, &mut time)?;
-    both_fail(&rt, &mut near, &mut far)
+    let mut bench = Bench::new();
+    bench.start(&rt)?;
+    bench.exchange(&rt, 4)?;
+    bench.packet_over(&rt)?;
+    bench.both_fail(&rt)
 }

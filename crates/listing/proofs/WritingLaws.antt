@@ -2,12 +2,16 @@
 -- Assumes nothing.
 use mathlib.Core.Path.{◌≡◌, refl, sym, ap, ◌∙◌}
 use mathlib.Core.List.{List, [], ◌∷◌, ◌++◌}
-use Prim.Native.Nat.{ℕ, suc, ◌+◌}
+use Prim.Native.Nat.{ℕ, suc, ◌+◌, ◌≤◌}
 use native.Mathlib.Nat.{add-zero, add_assoc}
 use native.Mathlib.Omega.{arith}
-use lib.ListN.{length, length-append}
-use lib.Seq.{sets, length-sets}
-use Rattle.listing.specs.Writing.{Room, Written}
+use lib.ListN.{length, length-append, take}
+use lib.Seq.{length-take-le, take_all}
+use borrow.Rule.Slice.PartMut.{put_mid}
+use lib.Seq.{sets, sets-eq, paste, length-sets}
+use Rattle.std.proofs.lemmas.Slice.{put_mid-paste}
+use Rattle.listing.specs.declared.Page.{Page}
+use Rattle.listing.specs.Writing.{Room, Puts}
 
 pub sets_append : (out : List ℕ) (at : ℕ) (xs ys : List ℕ) →
     sets out at (xs ++ ys) ≡ sets (sets out at xs) (at + length xs) ys
@@ -15,22 +19,33 @@ sets_append out at [] ys = rw (add-zero at)
 sets_append out at (x ∷ xs) ys =
     let e : suc at + length xs ≡ at + suc (length xs) = omega arith in sets_append _ (suc at) xs ys ∙ rw e
 
-pub nothing_written : (out : List ℕ) (at : ℕ) → Written out at [] at out
-nothing_written out at = record { behind = sym (add-zero at); stands = refl }
+-- the part behind the place, filled with the text, is the text written there
+pub part_written : (out : List ℕ) (at k : ℕ) (part text : List ℕ) → part ≡ text → length text ≡ k →
+    at + length text ≤ length out → put_mid at k out part ≡ sets out at text
+part_written out at k part text e n fits =
+    let whole : take (length text) text ≡ text = take_all (length text) text (omega arith) in
+    put_mid-paste at k out part text (length text) e n refl ∙ rw whole (sym (sets-eq text out at fits))
 
-module _ {out : List ℕ} {at : ℕ} (xs ys : List ℕ) where
-  pub room_first : Room out at (xs ++ ys) → Room out at xs
+pub nothing_put : (page : Page) → Puts page [] page
+nothing_put page = record { same_buffer = refl; behind = sym (add-zero page.at); stands = refl; same_length = refl }
+
+module _ {page : Page} (xs ys : List ℕ) where
+  pub room_first : Room page (xs ++ ys) → Room page xs
   room_first room = record { fits = omega (arith, rw (length-append xs ys) at room.fits) }
 
-  pub room_second : {next : ℕ} {left : List ℕ} → Room out at (xs ++ ys) → Written out at xs next left → Room left next ys
-  room_second {next} {left} room first =
-      let same : length left ≡ length out = ap length first.stands ∙ length-sets out at xs in
-      record { fits = omega (arith, rw (length-append xs ys) at room.fits, first.behind) }
+  pub room_second : {next : Page} → Room page (xs ++ ys) → Puts page xs next → Room next ys
+  room_second {next} room first =
+      record { fits = omega (arith, rw (length-append xs ys) at room.fits, first.behind, first.same_length) }
 
-  pub written_both : {next end : ℕ} {left last : List ℕ} → Written out at xs next left → Written left next ys end last →
-      Written out at (xs ++ ys) end last
-  written_both first second =
+  pub both_put : {next end : Page} → Puts page xs next → Puts next ys end → Puts page (xs ++ ys) end
+  both_put first second =
       record {
+        same_buffer = second.same_buffer ∙ first.same_buffer;
         behind = second.behind ∙ rw (first.behind, length-append xs ys, add_assoc);
-        stands = second.stands ∙ rw (first.behind, first.stands) (sym (sets_append out at xs ys));
+        stands = second.stands ∙ rw (first.behind, first.stands) (sym (sets_append page.out.now page.at xs ys));
+        same_length = second.same_length ∙ first.same_length;
       }
+
+pub three_put : {old second third new : Page} {xs ys zs : List ℕ} →
+    Puts old xs second → Puts second ys third → Puts third zs new → Puts old (xs ++ (ys ++ zs)) new
+three_put {old} {second} {third} {new} {xs} {ys} {zs} first then last = both_put xs (ys ++ zs) first (both_put ys zs then last)

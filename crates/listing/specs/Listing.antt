@@ -1,6 +1,7 @@
 -- 01, The listing: the whole text of an input, and what the call on a lent buffer answers and leaves in it.
 -- Assumes nothing.
-use Rattle.std.specs.Prelude.{◌≡◌, Bool, List, ◌++◌, ℕ, ◌≤◌, ltb, length, take, drop}
+use Rattle.std.specs.Prelude.{◌≡◌, Bool, List, ◌++◌, ℕ, ◌≤◌, ltb, length, take, drop, Option, None, Some}
+use Rattle.std.specs.Option.{unwrap_or}
 use Rattle.vocabulary.specs.Choice.{pick}
 use Rattle.characters.specs.States.{Fresh}
 use Rattle.characters_stream.specs.Feeding.{fed}
@@ -37,17 +38,17 @@ room = 163874
 unfoldable pub too_small : List ℕ → Bool
 too_small out = ltb (length out) room
 
--- How many bytes were written: 0, which no listing has, where the buffer is too small.
-unfoldable pub answer : List ℕ → List ℕ → ℕ
-answer input out = pick (too_small out) 0 (length (listing input))
+-- How many bytes were written; none where the buffer is too small.
+unfoldable pub answer : List ℕ → List ℕ → Option ℕ
+answer input out = pick (too_small out) None (Some (length (listing input)))
 
 -- The buffer afterwards: the text and what stood behind it, or as it was where it is too small.
 unfoldable pub buffer : List ℕ → List ℕ → List ℕ
 buffer input out = pick (too_small out) out (listing input ++ drop (length (listing input)) out)
 
 -- What `render` promises. The last two follow from the others: a caller passes the text on by them.
-pub record Rendered (input out : List ℕ) (n : ℕ) (left : List ℕ) : Type 0 where
-  pub answers : n ≡ answer input out
+pub record Rendered (input out : List ℕ) (written : Option ℕ) (left : List ℕ) : Type 0 where
+  pub answers : written ≡ answer input out
   pub leaves : left ≡ buffer input out
-  pub within : n ≤ length left
-  pub counts : n ≡ length (take n left)
+  pub within : unwrap_or written 0 ≤ length left
+  pub counts : unwrap_or written 0 ≡ length (take (unwrap_or written 0) left)

@@ -9,6 +9,6 @@ fn main(rt: HostRuntime) -> io::Result<()> {
     let mut input = Vec::new(rt.alloc());
     rt.stdin().take(65537).read_to_end(&mut input)?;
     let mut text = [0u8; listing::ROOM];
-    let length = listing::render(&input, &mut text);
+    let length = listing::render(&input, &mut text).unwrap();
     rt.stdout().write_all(&text[..length])
 }
