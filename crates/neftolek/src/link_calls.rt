@@ -1,6 +1,6 @@
 // Link ends and the time record: each function is the call of `link` with its name. A refused call leaves the state's words,
 // the stores and the time record, and answers zeros in `out`.
-ghost use Rattle.std.specs.Prelude.{◌≡◌};
+ghost use Rattle.std.specs.Prelude.{◌≡◌, [], ◌∷◌};
 ghost use Rattle.time.specs.Time.{fresh_time};
 ghost use Rattle.link.specs.Ends.{fresh_link};
 ghost use Rattle.link.specs.LinkWords.{link_words, time_words};
@@ -9,6 +9,20 @@ ghost use Rattle.link.specs.LinkCalls.{receive_left, put_left, take_left, offer_
 
 use link::calls;
 use link::fields::{TimeWords, Words};
+
+// What most of them answer: how many of the host's N-Chars were discarded.
+fn discarded(count: u32) -> [u32; 1]
+    ensures { result ≡ count ∷ [] }
+{
+    [count]
+}
+
+// What a take answers: it discards nothing.
+fn taken(nchar: u16) -> [u32; 2]
+    ensures { result ≡ 0 ∷ nchar ∷ [] }
+{
+    [0, u32::from(nchar)]
+}
 
 // A link end as it is made: in ErrorReset, controls off, stores empty.
 pub fn neftolek_link_fresh(state: &mut Words)
@@ -28,7 +42,7 @@ pub fn neftolek_link_tick(state: &mut Words, rx: &mut [u16], tx: &[u16], out: &m
     ensures { record { refusal = result; state = state.new; places = rx.new; out = out.new }
         ≡ tick_left state.old rx.old tx.now }
 {
-    calls::tick(state, rx, tx, out)
+    words::answer(calls::tick(state, rx, tx).map(discarded), out)
 }
 
 // To ErrorReset from any state, with both stores emptied.
@@ -36,7 +50,7 @@ pub fn neftolek_link_reset(state: &mut Words, rx: &mut [u16], tx: &[u16], out: &
     ensures { record { refusal = result; state = state.new; places = rx.new; out = out.new }
         ≡ reset_left state.old rx.old tx.now }
 {
-    calls::reset(state, rx, tx, out)
+    words::answer(calls::reset(state, rx, tx).map(discarded), out)
 }
 
 // A fault by the number of the decoder's report: `neftolek_link_fault(state, rx, n, tx, m, 5, out)` is a parity error.
@@ -50,7 +64,7 @@ pub fn neftolek_link_fault(
     ensures { record { refusal = result; state = state.new; places = rx.new; out = out.new }
         ≡ fault_left state.old rx.old tx.now kind }
 {
-    calls::fault(state, rx, tx, kind, out)
+    words::answer(calls::fault(state, rx, tx, kind).map(discarded), out)
 }
 
 // The three controls, all at once; any number but 0 is on.
@@ -66,7 +80,8 @@ pub fn neftolek_link_control(
     ensures { record { refusal = result; state = state.new; places = rx.new; out = out.new }
         ≡ control_left state.old rx.old tx.now (controls_of disabled start auto) }
 {
-    calls::control(state, rx, tx, disabled, start, auto, out)
+    let answered = calls::control(state, rx, tx, disabled, start, auto);
+    words::answer(answered.map(discarded), out)
 }
 
 // The token that is due: `out` gets the discarded, the token's number, 0 for none, and its value.
@@ -74,7 +89,7 @@ pub fn neftolek_link_send(state: &mut Words, rx: &mut [u16], tx: &[u16], out: &m
     ensures { record { refusal = result; state = state.new; places = rx.new; out = out.new }
         ≡ send_left state.old rx.old tx.now }
 {
-    calls::send(state, rx, tx, out)
+    words::answer(calls::send(state, rx, tx).map(<[u32; 3]>::from), out)
 }
 
 // The token with this number and value came over the wire: `out` gets the discarded, and 1 for a tick out.
@@ -90,7 +105,10 @@ pub fn neftolek_link_receive(
     ensures { record { refusal = result; state = state.new; rx = rx.new; time = time.new; out = out.new }
         ≡ receive_left state.old rx.old tx.now time.old kind value }
 {
-    calls::receive(state, rx, tx, time, kind, value, out)
+    words::answer(
+        calls::receive(state, rx, tx, time, kind, value).map(<[u32; 2]>::from),
+        out,
+    )
 }
 
 // The host puts an N-Char to be sent: `out` gets how many were discarded.
@@ -98,7 +116,7 @@ pub fn neftolek_link_put(state: &mut Words, tx: &mut [u16], nchar: u32, out: &mu
     ensures { record { refusal = result; state = state.new; places = tx.new; out = out.new }
         ≡ put_left state.old tx.old nchar }
 {
-    calls::put(state, tx, nchar, out)
+    words::answer(calls::put(state, tx, nchar).map(discarded), out)
 }
 
 // The host takes an N-Char that was received: `out` gets the discarded, always 0, and the N-Char.
@@ -106,7 +124,7 @@ pub fn neftolek_link_take(state: &mut Words, rx: &[u16], out: &mut [u32; 2]) -> 
     ensures { record { refusal = result; state = state.new; out = out.new }
         ≡ take_left state.old rx.now }
 {
-    calls::take(state, rx, out)
+    words::answer(calls::take(state, rx).map(taken), out)
 }
 
 // The host offers a Time-Code, which waits until the next send in Run: `out` gets the discarded, always 0.
@@ -114,5 +132,5 @@ pub fn neftolek_link_offer(state: &mut Words, code: u8, out: &mut [u32; 1]) -> u
     ensures { record { refusal = result; state = state.new; out = out.new }
         ≡ offer_left state.old code }
 {
-    calls::offer(state, code, out)
+    words::answer(calls::offer(state, code).and(Ok([0])), out)
 }
