@@ -31,6 +31,7 @@ impl From<io::Error> for Failure {
 }
 
 // A router with its stores and its table, fresh at first.
+#[derive(Drop)]
 struct Bench {
     words: Words,
     area: [u16; AREA],

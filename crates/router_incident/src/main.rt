@@ -4,8 +4,7 @@
 
 use router_ports::{Mode, PORTS, STORES, WORDS, Words};
 use router_table::{ROWS, Table};
-use std::fmt;
-use std::io;
+use std::{fmt, io};
 use vocabulary::Refusal;
 
 // The smallest stores that a router may have.
@@ -33,6 +32,7 @@ impl From<io::Error> for Failure {
 }
 
 // A set of ports, bit p for port p.
+#[derive(Clone, Copy)]
 struct Ports(u16);
 
 impl fmt::Display for Ports {
@@ -50,6 +50,7 @@ impl fmt::Display for Ports {
 }
 
 // What an input does, with the ports that it waits for or its output.
+#[derive(Clone, Copy)]
 struct Input(Mode);
 
 impl fmt::Display for Input {
@@ -64,6 +65,7 @@ impl fmt::Display for Input {
 }
 
 // Which input an output is held by.
+#[derive(Clone, Copy)]
 struct Output(Option<usize>);
 
 impl fmt::Display for Output {
@@ -119,7 +121,9 @@ impl Bench {
             print!(rt; " input {}, {} waiting;", Input(held.mode), held.unmoved)?;
             print!(rt;
                 " output {}, {} waiting, wanted by{};",
-                Output(held.owner), held.untaken, Ports(held.wanted)
+                Output(held.owner),
+                held.untaken,
+                Ports(held.wanted)
             )?;
         }
         println!(rt; " unread{}", Ports(held.unread))?;
