@@ -1,12 +1,16 @@
 pub mod EachLaws
+pub mod AnyLaws
 pub mod PlaceLaws
 pub mod PortLaws
+pub mod FreshLaws
 pub mod StateLaws
 pub mod WantedLaws
 pub mod AcceptedLaws
 pub mod ListedLaws
 pub mod PlaceWords
+pub mod RowLaws
 pub mod LayoutLaws
 pub mod StateWordsLaws
+pub mod RowTestLaws
 pub mod KeepsProof
 pub mod FitsProof

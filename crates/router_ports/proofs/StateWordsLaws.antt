@@ -240,14 +240,14 @@ module _ (words : List ℕ) where
   abbrev s : Router
   s = router_of words
 
-  held_is : (o i : ℕ) → o < 11 → held_by words o i ≡ is_owner (output_at s o).owner i
+  pub held_is : (o i : ℕ) → o < 11 → held_by words o i ≡ is_owner (output_at s o).owner i
   unfolding output_in
   held_is o i h =
       let there : held_by words o i ≡ is_owner (output_in words o).owner i =
       rw (lt-ltb o 11 h) (owned_is (word_at words (3 * o + 33)) (word_at words (3 * o + 33 + 1)) i) in
       there ∙ ap (λ (out : Output). is_owner out.owner i) (sym (output_in_lem words o h))
 
-  routed_to_is : (i o : ℕ) → i < 11 → routed_to words i o ≡ is_routed (mode_at s i) o
+  pub routed_to_is : (i o : ℕ) → i < 11 → routed_to words i o ≡ is_routed (mode_at s i) o
   unfolding input_in
   routed_to_is i o h =
       let there : routed_to words i o ≡ is_routed (input_in words i).mode o =
@@ -409,11 +409,8 @@ module _ (words : List ℕ) where
           or_right (not (right_at (3 * p + 33) && (right_at (3 * p + 33 + 1) && right_at (3 * p + 33 + 2)))) _ (output_good p h) in
           rw (mode, output)) 0 11 (omega arith)
 
-    pub good_state : length words ≡ 110 → any (bad_port_in words) 0 11 ≡ false → bad_state words ≡ false
-    good_state long none =
-        let good : (p : ℕ) → p < 11 → bad_port_in words p ≡ false =
-        λ p h. none_at (bad_port_in words) 0 11 p none (omega arith) (omega (arith, h)) in
-        rw (good_is_router good long, good_ports good)
+    good_state : length words ≡ 110 → ((p : ℕ) → p < 11 → bad_port_in words p ≡ false) → bad_state words ≡ false
+    good_state long good = rw (good_is_router good long, good_ports good)
 
   -- and in the words of a router that is not refused no port is wrong
   module _ (p : ℕ) (h : p < 11) (wrong : bad_port_in words p ≡ true) where
@@ -443,7 +440,7 @@ module _ (words : List ℕ) where
               right (3 * p + 33 + 2) (omega (arith, h)),
             ) here
 
-    pub bad_port_bad_state : bad_state words ≡ true
+    bad_port_bad_state : bad_state words ≡ true
     bad_port_bad_state = go (is_router words) (bad_ports s) refl refl
       where
         go : (is bad : Bool) → is_router words ≡ is → bad_ports s ≡ bad → not is || bad ≡ true
@@ -451,7 +448,26 @@ module _ (words : List ℕ) where
         go true false e d = absurd (refused_port e d)
         go false bad e d = refl
 
-  pub other_length_bad_state : (length words ≡ 110 → ⊥) → bad_state words ≡ true
-  unfolding router_words
-  other_length_bad_state d =
-      rw (same_lengths words (router_words s) (λ e. d (e ∙ length_listed (router_word s) 0 110)))
+  -- what the test of each port says of all
+  pub tested_state : length words ≡ 110 → ((k : ℕ) → word_at words k < 2 ^ 32) →
+      bad_state words ≡ any (λ (p : ℕ). ltb p 11 && bad_port_in words p) 0 11
+  tested_state long fits = go (bad_state words) (any tested 0 11) refl refl
+    where
+      tested : ℕ → Bool
+      tested p = ltb p 11 && bad_port_in words p
+
+      passed : any tested 0 11 ≡ false → (p : ℕ) → p < 11 → bad_port_in words p ≡ false
+      passed none p h =
+          let here : tested p ≡ false = none_at tested 0 11 p none (omega arith) (omega (arith, h)) in
+          rw (lt-ltb p 11 h) at here
+
+      right : (p : ℕ) → p < 11 → (b : Bool) → bad_port_in words p ≡ b → bad_state words ≡ false → tested p ≡ false
+      right p h false e good = rw (lt-ltb p 11 h) e
+      right p h true e good = absurd (false≢true (sym good ∙ bad_port_bad_state p h e))
+
+      go : (bad some : Bool) → bad_state words ≡ bad → any tested 0 11 ≡ some → bad ≡ some
+      go true true e f = refl
+      go false false e f = refl
+      go true false e f = absurd (false≢true (sym (good_state fits long (passed f)) ∙ e))
+      go false true e f =
+          absurd (false≢true (sym (any_none tested 11 (λ p h. right p h (bad_port_in words p) refl e) 0 11 (omega arith)) ∙ f))

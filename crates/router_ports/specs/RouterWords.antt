@@ -1,6 +1,6 @@
 -- What the words of a router mean, and how they are written.
 -- Assumes nothing.
-use Rattle.std.specs.Prelude.{ℕ, zero, suc, ◌+◌, ◌-◌, ◌*◌, ◌/◌, ◌%◌, ◌^◌, ◌<◌, ◌≡◌, Bool, true, false, List, [], ◌∷◌, length, eqb, ltb, Option, None, Some}
+use Rattle.std.specs.Prelude.{ℕ, zero, suc, ◌+◌, ◌-◌, ◌*◌, ◌/◌, ◌%◌, ◌^◌, ◌<◌, ◌≡◌, Bool, true, false, List, [], ◌∷◌, length, take, drop, eqb, ltb, Option, None, Some}
 use Rattle.std.proofs.lemmas.List.Edits.{sets}
 use Rattle.vocabulary.specs.Choice.{pick}
 use Rattle.words.specs.Words.{word_at, truth_word, truth, narrow, same}
@@ -22,6 +22,10 @@ use Rattle.router_ports.specs.Records.{Router}
 unfoldable pub listed : {A : Type 0} → (ℕ → A) → ℕ → ℕ → List A
 listed f from zero = []
 listed f from (suc count) = f from ∷ listed f (from + 1) count
+
+-- row k of rows of n words, `count` of them from `from` on
+abbrev pub row_in : ℕ → ℕ → ℕ → List ℕ → ℕ → Option (List ℕ)
+row_in from count n words k = pick (ltb k count) (Some (take n (drop (from + n * k) words))) None
 
 -- saved: the value of a waiting input is its set of ports, of a routed one its output
 abbrev pub mode_words : Mode → List ℕ

@@ -1,0 +1,58 @@
+-- The tests of a port's words, read from its rows.
+-- Assumes nothing.
+use Rattle.std.proofs.Common.{◌≡◌, ℕ, ◌+◌, ◌*◌, ◌<◌, ◌≤◌, Bool, false, ◌&&◌, List, Option, Some, None, ltb, refl, sym, ap, ◌∙◌, arith}
+use native.Mathlib.Decide.{dec_lt}
+use borrow.Author.Tests.{lt-ltb, le-ltb}
+use Rattle.words.specs.Words.{word_at}
+use Rattle.router_ports.specs.Ports.{mode_at, output_at}
+use Rattle.router_ports.specs.Refusals.{is_owner, is_routed}
+use Rattle.router_ports.specs.RouterWords.{row_in, router_of}
+use Rattle.router_ports.specs.StateWords.{held_by, routed_to, bad_mode, bad_owner, bad_input_in, bad_output_in}
+use Rattle.router_ports.proofs.RowLaws.{word, first, row_within}
+use Rattle.router_ports.proofs.StateWordsLaws.{held_is, routed_to_is}
+
+module _ (words : List ℕ) where
+  held_anywhere : (o i : ℕ) → held_by words o i ≡ is_owner (output_at (router_of words) o).owner i
+  held_anywhere o i = go (dec_lt o 11)
+    where
+      go : Dec (o < 11) → held_by words o i ≡ is_owner (output_at (router_of words) o).owner i
+      go (yes l) = held_is words o i l
+      go (no l) = rw (le-ltb o 11 (omega (arith, l)))
+
+  routed_anywhere : (i o : ℕ) → routed_to words i o ≡ is_routed (mode_at (router_of words) i) o
+  routed_anywhere i o = go (dec_lt i 11)
+    where
+      go : Dec (i < 11) → routed_to words i o ≡ is_routed (mode_at (router_of words) i) o
+      go (yes l) = routed_to_is words i o l
+      go (no l) = rw (le-ltb i 11 (omega (arith, l)))
+
+  module _ (p : ℕ) (row : List ℕ) where
+    pub input_row : row_in 0 11 3 words p ≡ Some row →
+        ltb p 11 && bad_input_in words p
+        ≡ bad_mode (word_at row 0) (word_at row 1) (word_at row 2)
+        (is_owner (output_at (router_of words) (word_at row 1)).owner p)
+    unfolding bad_input_in
+    input_row is =
+        let e : 0 + 3 * p ≡ 3 * p = omega arith in
+        rw (
+          lt-ltb p 11 (row_within 0 11 3 words p row is),
+          first words p row 0 11 3 (3 * p) is e (omega arith),
+          word words p row 0 11 3 (3 * p) is e 1 (omega arith),
+          word words p row 0 11 3 (3 * p) is e 2 (omega arith),
+          held_anywhere (word_at words (3 * p + 1)) p,
+        )
+
+    pub output_row : row_in 33 11 3 words p ≡ Some row →
+        ltb p 11 && bad_output_in words p
+        ≡ bad_owner (word_at row 0) (word_at row 1) (word_at row 2)
+        (is_routed (mode_at (router_of words) (word_at row 1)) p)
+    unfolding bad_output_in
+    output_row is =
+        let e : 33 + 3 * p ≡ 3 * p + 33 = omega arith in
+        rw (
+          lt-ltb p 11 (row_within 33 11 3 words p row is),
+          first words p row 33 11 3 (3 * p + 33) is e (omega arith),
+          word words p row 33 11 3 (3 * p + 33) is e 1 (omega arith),
+          word words p row 33 11 3 (3 * p + 33) is e 2 (omega arith),
+          routed_anywhere (word_at words (3 * p + 33 + 1)) p,
+        )
