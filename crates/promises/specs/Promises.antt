@@ -97,16 +97,16 @@ abbrev pub RouterPut : Promise
 RouterPut = promise 2 router_put.Kinds.ps router_put.Kinds.r router_put.Reads.Post
 
 abbrev pub RouterTake : Promise
-RouterTake = promise 3 router_take.Kinds.ps router_take.Kinds.r router_take.Reads.Post
+RouterTake = promise 2 router_take.Kinds.ps router_take.Kinds.r router_take.Reads.Post
 
 abbrev pub RouterRun : Promise
-RouterRun = promise 4 router_run.Kinds.ps router_run.Kinds.r router_run.Reads.Post
+RouterRun = promise 3 router_run.Kinds.ps router_run.Kinds.r router_run.Reads.Post
 
 abbrev pub RouterWrite : Promise
 RouterWrite = promise 2 router_write.Kinds.ps router_write.Kinds.r router_write.Reads.Post
 
 abbrev pub RouterRead : Promise
-RouterRead = promise 3 router_read.Kinds.ps router_read.Kinds.r router_read.Reads.Post
+RouterRead = promise 2 router_read.Kinds.ps router_read.Kinds.r router_read.Reads.Post
 
 abbrev pub RouterHeld : Promise
-RouterHeld = promise 2 router_held.Kinds.ps router_held.Kinds.r router_held.Reads.Post
+RouterHeld = promise 1 router_held.Kinds.ps router_held.Kinds.r router_held.Reads.Post
