@@ -1,6 +1,7 @@
 pub mod TableLaws
 pub mod TestLaws
 pub mod TestedLaws
+pub mod AnswerLaws
 pub mod FieldLaws
 pub mod RecordLaws
 pub mod FaultLaws
