@@ -1,7 +1,6 @@
 -- The words of an answer give it back, so two answers with the same words are one.
 -- Assumes nothing.
 use Rattle.std.specs.Prelude.{ℕ, ◌≡◌, refl, List, Option, None, Some, eqb}
-use mathlib.Core.Bool.{Bool, true, false}
 use mathlib.Core.Path.{sym, ap, ◌∙◌}
 use Rattle.vocabulary.specs.Choice.{pick}
 use Rattle.vocabulary.specs.declared.Token.{Token}

@@ -10,4 +10,3 @@ pub mod RefusedLaws
 pub mod CallLaws
 pub mod StayLaws
 pub mod StoreFits
-pub mod HostCallLaws
