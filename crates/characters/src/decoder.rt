@@ -234,7 +234,7 @@ pub fn bit(words: &mut Words, bit: u32) -> Result<Option<Report>, Refusal>
         ≡ bit_left words.old bit }
 {
     let b = words::truth(bit);
-    match decoder_tests::phase_of(*words)? {
+    match decoder_tests::phase_of(words)? {
         Phase::Fresh => Ok(hunt(words, NO_BITS, b)),
         Phase::Hunting => {
             let places = words[PLACES];
@@ -268,7 +268,7 @@ pub fn tick(words: &mut Words) -> Result<Option<Report>, Refusal>
     ensures { record { refusal = refusal_in result; state = words.new; out = report_words (answer_in None result) }
         ≡ tick_left words.old }
 {
-    match decoder_tests::phase_of(*words)? {
+    match decoder_tests::phase_of(words)? {
         Phase::Fresh => Ok(None),
         Phase::Stopped => Err(Refusal::Stopped),
         _ => Ok(silent_tick(words)),
