@@ -92,14 +92,17 @@ fn shift(places: u32, b: bool) -> u32
 // Each of these takes a bit in its phase.
 #[tactic(auto, unfolding(crate::specs::Decoder::hunts, crate::specs::Decoder::goes_on))]
 fn hunt(words: &mut Words, places: u32, b: bool) -> Option<Report>
-    ensures { Made (hunts places b) words.new result }
+    ensures { (k s p : ℕ) → words.old ≡ k ∷ s ∷ 0 ∷ 0 ∷ 0 ∷ 0 ∷ p ∷ [] →
+        Made (hunts places b) words.new result }
 {
     let next = shift(places, b);
     if next == HUNTED_FOR {
         *words = between(Waiting::Reported);
         Some(Report::Got(Token::Null))
     } else {
-        *words = [Phase::Hunting as u32, 0, 0, 0, 0, 0, next];
+        words[PHASE] = Phase::Hunting as u32;
+        words[SILENT] = 0;
+        words[PLACES] = next;
         None
     }
 }
