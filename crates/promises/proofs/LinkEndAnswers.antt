@@ -7,6 +7,14 @@ use Rattle.words.specs.Words.{Left, word_at}
 use Rattle.link.specs.Answers.{nothing_sent, nothing_received}
 use Rattle.link.specs.LinkCalls.{LinkLeft, ReceiveLeft}
 use Rattle.link.proofs.AnswerLaws.{one_sent, one_received}
+use Rattle.link.proofs.U32FromLinkState.from.Kinds as state_number_kinds
+use Rattle.link.proofs.U32FromLinkState.from.Reads as state_number_reads
+use Rattle.link.proofs.FaultKindTryFromU32.try_from.Kinds as fault_kind_kinds
+use Rattle.link.proofs.FaultKindTryFromU32.try_from.Reads as fault_kind_reads
+use Rattle.link.proofs.calls.ArrayU323FromSent.from.Kinds as sent_words_kinds
+use Rattle.link.proofs.calls.ArrayU323FromSent.from.Reads as sent_words_reads
+use Rattle.link.proofs.calls.ArrayU322FromReceived.from.Kinds as received_words_kinds
+use Rattle.link.proofs.calls.ArrayU322FromReceived.from.Reads as received_words_reads
 use Rattle.link.proofs.calls.fresh.Kinds as fresh_kinds
 use Rattle.link.proofs.calls.fresh.Reads as fresh_reads
 use Rattle.link.proofs.calls.fresh_time.Kinds as fresh_time_kinds
@@ -29,6 +37,18 @@ use Rattle.link.proofs.calls.take.Kinds as take_kinds
 use Rattle.link.proofs.calls.take.Reads as take_reads
 use Rattle.link.proofs.calls.offer.Kinds as offer_kinds
 use Rattle.link.proofs.calls.offer.Reads as offer_reads
+
+pub state_number : OneResult 0 state_number_kinds.ps state_number_kinds.r state_number_reads.Post
+state_number κs a x y s t p q = p ∙ sym q
+
+pub fault_kind : OneResult 0 fault_kind_kinds.ps fault_kind_kinds.r fault_kind_reads.Post
+fault_kind κs a x y s t p q = p ∙ sym q
+
+pub sent_words : OneResult 0 sent_words_kinds.ps sent_words_kinds.r sent_words_reads.Post
+sent_words κs a x y s t p q = p ∙ sym q
+
+pub received_words : OneResult 0 received_words_kinds.ps received_words_kinds.r received_words_reads.Post
+received_words κs a x y s t p q = p ∙ sym q
 
 pub fresh_words : OnePlaces 1 fresh_kinds.ps fresh_kinds.r fresh_reads.Post
     (λ κs s. s.0.now)
