@@ -6,34 +6,36 @@ use mathlib.Core.List.{List, [], ◌∷◌, ◌++◌, append_assoc}
 use Prim.Native.Nat.{ℕ, ◌+◌}
 use native.Mathlib.Omega.{arith}
 use lib.ListN.{length}
+use Rattle.std.specs.Prelude.{Option, None}
 use Rattle.characters.specs.Calls.{bit_answer}
-use Rattle.characters.specs.States.{Decoder, Report, Nothing}
+use Rattle.characters.specs.declared.reports.Report.{Report}
+use Rattle.characters.specs.States.{Decoder}
 use Rattle.characters_stream.specs.Meaning.{Line}
 use Rattle.characters_stream.specs.Feeding.{line_of, fed, after}
 use Rattle.characters_stream.proofs.CallLaws.{Answers}
 
 -- what is reported on the last bit
-unfoldable pub final : Decoder → List Bool → Report
-final d [] = Nothing
+unfoldable pub final : Decoder → List Bool → Option Report
+final d [] = None
 final d (b ∷ []) = (bit_answer d b).report
 final d (b ∷ c ∷ bits) = final (bit_answer d b).decoder (c ∷ bits)
 
 -- one call at the front
-pub after_bit : {d d' : Decoder} {b : Bool} {r : Report} (bits : List Bool) → Answers d b r d' →
+pub after_bit : {d d' : Decoder} {b : Bool} {r : Option Report} (bits : List Bool) → Answers d b r d' →
     after d (b ∷ bits) ≡ after d' bits
 unfolding after
 after_bit bits answers = ap (λ (d : Decoder). after d bits) answers.leaves
 
-pub after_last : {d d' : Decoder} {b : Bool} {r : Report} → Answers d b r d' → after d (b ∷ []) ≡ d'
+pub after_last : {d d' : Decoder} {b : Bool} {r : Option Report} → Answers d b r d' → after d (b ∷ []) ≡ d'
 unfolding after
 after_last answers = answers.leaves
 
-pub final_bit : {d d' : Decoder} {b : Bool} {r : Report} (c : Bool) (bits : List Bool) → Answers d b r d' →
+pub final_bit : {d d' : Decoder} {b : Bool} {r : Option Report} (c : Bool) (bits : List Bool) → Answers d b r d' →
     final d (b ∷ c ∷ bits) ≡ final d' (c ∷ bits)
 unfolding final
 final_bit c bits answers = ap (λ (d : Decoder). final d (c ∷ bits)) answers.leaves
 
-pub final_last : {d d' : Decoder} {b : Bool} {r : Report} → Answers d b r d' → final d (b ∷ []) ≡ r
+pub final_last : {d d' : Decoder} {b : Bool} {r : Option Report} → Answers d b r d' → final d (b ∷ []) ≡ r
 unfolding final
 final_last answers = answers.reports
 

@@ -14,8 +14,9 @@ use Rattle.characters.specs.Decoder.{plain, second_bit, in_phase, bit_step, sile
 use Rattle.characters.specs.Refusals.{bad_waiting, bad_phase, decoder_refusal}
 use Rattle.characters.specs.Calls.{bit_answer, tick_answer, decode_accepted, decode_refused}
 use Rattle.characters.proofs.BitLaws.{bit_le}
-use Rattle.characters.specs.States.{Waiting, Whole, Phase, Hunting, Between, Parity, Data, Control, Second, Decoder}
-use Rattle.characters.specs.States.{Fresh, Heard, Stopped, Decoded, Step}
+use Rattle.characters.specs.declared.reports.Waiting.{Waiting}
+use Rattle.characters.specs.declared.reports.Waiting.TheVariants.{Whole}
+use Rattle.characters.specs.States.{Phase, Hunting, Between, Parity, Data, Control, Second, Decoder, Fresh, Heard, Stopped, Decoded, Step}
 use Rattle.characters_stream.specs.Feeding.{after}
 use Rattle.characters_stream.specs.GoodStates.{Good, EightPlaces, Call, bit, tick, left, left_all, StaysGood}
 

@@ -12,11 +12,14 @@ use lib.ListN.{length, drop, length-append}
 use lib.Seq.{append_snoc, drop_at, take-append-add}
 use borrow.Author.Tests.{eq-eqb, ne_eqb}
 use Rattle.vocabulary.specs.declared.Token.TheVariants.{Null}
+use Rattle.std.specs.Prelude.{None, Some}
 use Rattle.characters.specs.Bits.{number}
 use Rattle.characters.specs.Decoder.{goes_on, hunted_for, hunts, bit_step}
 use Rattle.characters.specs.Refusals.{bad_decoder, is_stopped}
 use Rattle.characters.proofs.BitLaws.{number_tells}
-use Rattle.characters.specs.States.{Reported, Hunting, Between, Decoder, Fresh, Heard, Nothing, Got}
+use Rattle.characters.specs.declared.reports.Report.TheVariants.{Got}
+use Rattle.characters.specs.declared.reports.Waiting.TheVariants.{Reported}
+use Rattle.characters.specs.States.{Hunting, Between, Decoder, Fresh, Heard}
 use Rattle.characters_stream.specs.Meaning.{eight_bits, EndIn8, FirstNull}
 use Rattle.characters_stream.specs.Feeding.{after}
 use Rattle.characters_stream.proofs.RegisterLaws.{shifted_number}
@@ -103,7 +106,7 @@ module _ {bits : List Bool} {d : Decoder} (h : Hunts bits d) (b : Bool) where
       at (yes e) = yes (window_tells e)
       at (no other) = no (λ found. other (window_told found))
 
-  pub hunt_ends : EndIn8 (bits ++ b ∷ []) → Answers d b (Got Null) (Heard (Between Reported) 0)
+  pub hunt_ends : EndIn8 (bits ++ b ∷ []) → Answers d b (Some (Got Null)) (Heard (Between Reported) 0)
   unfolding hunts goes_on
   hunt_ends found =
       accepts d b h.passes h.going
@@ -113,7 +116,7 @@ module _ {bits : List Bool} {d : Decoder} (h : Hunts bits d) (b : Bool) where
   window_other : (EndIn8 (bits ++ b ∷ []) → ⊥) → eqb (number window) hunted_for ≡ false
   window_other other = ne_eqb (number window) hunted_for (λ e. other (window_tells e))
 
-  pub hunt_goes_on : (EndIn8 (bits ++ b ∷ []) → ⊥) → Answers d b Nothing (Heard (Hunting (number window)) 0)
+  pub hunt_goes_on : (EndIn8 (bits ++ b ∷ []) → ⊥) → Answers d b None (Heard (Hunting (number window)) 0)
   unfolding hunts goes_on
   hunt_goes_on other =
       accepts d b h.passes h.going
@@ -127,7 +130,7 @@ module _ {bits : List Bool} {d : Decoder} (h : Hunts bits d) (b : Bool) where
 -- fed from where it hunts up to the first NULL, the decoder reports it on the last bit
 pub first_null_run : (bits : List Bool) {seen : List Bool} {d : Decoder} (b : Bool) → Hunts seen d →
     FirstNull (seen ++ b ∷ bits) →
-    (after d (b ∷ bits) ≡ Heard (Between Reported) 0) × (final d (b ∷ bits) ≡ Got Null)
+    (after d (b ∷ bits) ≡ Heard (Between Reported) 0) × (final d (b ∷ bits) ≡ Some (Got Null))
 first_null_run [] b h null =
     let e = hunt_ends h b null.found in
     (after_last e, final_last e)

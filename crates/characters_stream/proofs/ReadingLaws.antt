@@ -12,7 +12,7 @@ use Rattle.characters.specs.Wire.{good_parity}
 use Rattle.characters.specs.Decoder.{body_odd}
 use Rattle.characters.specs.Refusals.{bad_waiting}
 use Rattle.characters.proofs.BitLaws.{number_below, bits_number, odd_append}
-use Rattle.characters.specs.States.{Waiting}
+use Rattle.characters.specs.declared.reports.Waiting.{Waiting}
 use Rattle.characters_stream.specs.Meaning.{Reading, byte, fct, eop, eep, esc, null, time_code, Ended, first, next}
 
 -- eight bits make a number below 256, and are the eight bits of that number

@@ -19,7 +19,10 @@ use Rattle.characters.specs.Refusals.{bad_waiting}
 use Rattle.characters.specs.Calls.{encode_answer}
 use Rattle.characters.proofs.BitLaws.{number_bits, bits_number}
 use Rattle.characters.proofs.WireLaws.{last_of_any}
-use Rattle.characters.specs.States.{Encoder, Waiting, Reported, Whole, Between, Decoder, Fresh, Heard, Report}
+use Rattle.characters.specs.declared.reports.Report.{Report}
+use Rattle.characters.specs.declared.reports.Waiting.{Waiting}
+use Rattle.characters.specs.declared.reports.Waiting.TheVariants.{Reported, Whole}
+use Rattle.characters.specs.States.{Encoder, Between, Decoder, Fresh, Heard}
 use Rattle.characters_stream.specs.Meaning.{Reading, byte, fct, eop, eep, esc, null, time_code}
 use Rattle.characters_stream.specs.Feeding.{fed}
 use Rattle.characters_stream.specs.RoundTrip.{encoded, IsToken, AreTokens, without_last, reports_of, got_all, RoundTrip}

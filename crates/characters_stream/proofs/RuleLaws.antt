@@ -7,8 +7,12 @@ use mathlib.Core.List.{List, [], ◌∷◌, ◌++◌, append-nil}
 use native.Mathlib.Omega.{arith}
 use lib.ListN.{length, length-append}
 use Rattle.vocabulary.specs.declared.Token.TheVariants.{Null}
-use Rattle.characters.specs.States.{Waiting, Reported, Whole, Esc, Between, Parity, Decoder, Fresh, Heard, Stopped}
-use Rattle.characters.specs.States.{Report, Got}
+use Rattle.std.specs.Prelude.{Some}
+use Rattle.characters.specs.declared.reports.Report.{Report}
+use Rattle.characters.specs.declared.reports.Report.TheVariants.{Got}
+use Rattle.characters.specs.declared.reports.Waiting.{Waiting}
+use Rattle.characters.specs.declared.reports.Waiting.TheVariants.{Reported, Whole, Esc}
+use Rattle.characters.specs.States.{Between, Parity, Decoder, Fresh, Heard, Stopped}
 use Rattle.characters_stream.specs.Meaning.{eight_bits, FirstNull, Ended, first, next}
 use Rattle.characters_stream.specs.Meaning.{ReportedAt, first_null, closed, bad_parity, bad_escape}
 use Rattle.characters_stream.specs.Feeding.{after}
@@ -21,7 +25,7 @@ use Rattle.characters_stream.proofs.RunLaws.{run_none, character_run}
 use Rattle.characters_stream.proofs.HuntLaws.{fresh_hunts, first_null_run}
 
 first_null_found : (bits : List Bool) → FirstNull bits →
-    (after Fresh bits ≡ Heard (Between Reported) 0) × (final Fresh bits ≡ Got Null)
+    (after Fresh bits ≡ Heard (Between Reported) 0) × (final Fresh bits ≡ Some (Got Null))
 first_null_found [] null =
     absurd (omega (arith, ap length null.found.1, length-append null.found.0 eight_bits))
 first_null_found (b ∷ bits) null = first_null_run bits b fresh_hunts null
@@ -52,7 +56,7 @@ not_true : (b : Bool) → (b ≡ true → ⊥) → b ≡ false
 not_true true other = absurd (other refl)
 not_true false other = refl
 
-pub reported : {bits : List Bool} {r : Report} → ReportedAt bits r → final Fresh bits ≡ r
+pub reported : {bits : List Bool} {r : Report} → ReportedAt bits r → final Fresh bits ≡ Some r
 reported (first_null {bits} null) = (first_null_found bits null).1
 reported (closed {t} p flag ended good) =
     final_ended p flag [] ended

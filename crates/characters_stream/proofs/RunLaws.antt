@@ -8,13 +8,17 @@ use native.Mathlib.Omega.{arith}
 use lib.ListN.{length, length-append}
 use lib.Seq.{append_snoc}
 use Rattle.vocabulary.specs.declared.Token.TheVariants.{Null}
+use Rattle.std.specs.Prelude.{Option, None, Some}
 use Rattle.characters.specs.Bits.{number}
 use Rattle.characters.specs.Wire.{good_parity}
 use Rattle.characters.specs.Decoder.{goes_on, hunts, body_odd, escaped, closes, body_of, data_token}
 use Rattle.characters.specs.Refusals.{bad_waiting}
 use Rattle.characters.specs.Calls.{bit_answer, decode_accepted}
-use Rattle.characters.specs.States.{Waiting, Reported, Whole, Between, Data, Control, Decoder, Fresh, Heard, Report}
-use Rattle.characters.specs.States.{Nothing, Got, ParityError, EscapeError, Disconnect}
+use Rattle.characters.specs.declared.reports.Report.{Report}
+use Rattle.characters.specs.declared.reports.Report.TheVariants.{Got}
+use Rattle.characters.specs.declared.reports.Waiting.{Waiting}
+use Rattle.characters.specs.declared.reports.Waiting.TheVariants.{Reported, Whole}
+use Rattle.characters.specs.States.{Between, Data, Control, Decoder, Fresh, Heard}
 use Rattle.characters_stream.specs.Meaning.{Line, eight_bits, Reading, byte, fct, eop, eep, esc, null, time_code}
 use Rattle.characters_stream.specs.Feeding.{line_of, fed, after}
 use Rattle.characters_stream.specs.RoundTrip.{reports_of}
@@ -23,7 +27,7 @@ use Rattle.characters_stream.proofs.CallLaws.{Answers, parity_comes, flag_closes
 use Rattle.characters_stream.proofs.CallLaws.{control_comes, second_whole}
 
 -- what a call adds to the reports
-abbrev pub said : Report → List Report
+abbrev pub said : Option Report → List Report
 said r = reports_of (line_of 0 r)
 
 -- `Run d bits rs d'`: fed with these bits, d reports rs and is then d'
@@ -35,14 +39,11 @@ pub run_none : {d : Decoder} → Run d [] [] d
 unfolding after fed
 run_none = record { leaves = refl; says = λ n. refl }
 
-reports_append : (n : ℕ) (r : Report) (lines : List Line) → reports_of (line_of n r ++ lines) ≡ said r ++ reports_of lines
-reports_append n Nothing lines = refl
-reports_append n (Got t) lines = refl
-reports_append n ParityError lines = refl
-reports_append n EscapeError lines = refl
-reports_append n Disconnect lines = refl
+reports_append : (n : ℕ) (r : Option Report) (lines : List Line) → reports_of (line_of n r ++ lines) ≡ said r ++ reports_of lines
+reports_append n None lines = refl
+reports_append n (Some r) lines = refl
 
-pub run_bit : {d d' d'' : Decoder} {b : Bool} {bits : List Bool} {r : Report} {rs : List Report} →
+pub run_bit : {d d' d'' : Decoder} {b : Bool} {bits : List Bool} {r : Option Report} {rs : List Report} →
     Answers d b r d' → Run d' bits rs d'' → Run d (b ∷ bits) (said r ++ rs) d''
 unfolding after fed
 run_bit {bits} {r} answers run =

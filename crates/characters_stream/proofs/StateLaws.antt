@@ -9,12 +9,14 @@ use native.Mathlib.Omega.{arith}
 use native.Mathlib.Decide.{dec_lt}
 use lib.ListN.{length, take, length-append}
 use lib.Seq.{append_snoc, take-append-le, take_all, take-nil}
+use Rattle.std.specs.Prelude.{Option, None, Some}
 use Rattle.characters.specs.Bits.{odd, number}
 use Rattle.characters.specs.Decoder.{escaped, closes, body_of, data_token}
 use Rattle.characters.specs.Calls.{bit_answer}
-use Rattle.characters.specs.States.{Waiting, Reported, Whole, Esc, Phase, Hunting, Between, Parity, Data, Control}
-use Rattle.characters.specs.States.{Second, Decoder, Fresh, Heard, Stopped, Decoded, Report, Nothing, Got, ParityError}
-use Rattle.characters.specs.States.{EscapeError, Disconnect}
+use Rattle.characters.specs.declared.reports.Report.{Report}
+use Rattle.characters.specs.declared.reports.Waiting.{Waiting}
+use Rattle.characters.specs.declared.reports.Waiting.TheVariants.{Reported, Whole, Esc}
+use Rattle.characters.specs.States.{Phase, Hunting, Between, Parity, Data, Control, Second, Decoder, Fresh, Heard, Stopped, Decoded}
 use Rattle.characters_stream.specs.Meaning.{eight_bits, EndIn8, FirstNull, TogetherOdd}
 use Rattle.characters_stream.specs.Meaning.{Reading, byte, fct, eop, eep, esc, null, time_code}
 use Rattle.characters_stream.specs.Meaning.{Ended, first, next, ReportedAt, first_null, closed, bad_parity, bad_escape}
@@ -49,19 +51,16 @@ pub data At : List Bool → Decoder → Type 0 where
   stopped : {bits : List Bool} → Failed bits → At bits Stopped
 
 -- what is reported is given by a rule
-abbrev pub Given : List Bool → Report → Type 0
-Given bits Nothing = Unit {0}
-Given bits (Got t) = ReportedAt bits (Got t)
-Given bits ParityError = ReportedAt bits ParityError
-Given bits EscapeError = ReportedAt bits EscapeError
-Given bits Disconnect = ReportedAt bits Disconnect
+abbrev pub Given : List Bool → Option Report → Type 0
+Given bits None = Unit {0}
+Given bits (Some r) = ReportedAt bits r
 
 -- `Keeps bits a`: an answer a of a call keeps to that, these being the bits with its own
 record Keeps (bits : List Bool) (a : Decoded) : Type 0 where
   at : At bits a.decoder
   given : Given bits a.report
 
-keeps : {bits : List Bool} {d d' : Decoder} {b : Bool} {r : Report} →
+keeps : {bits : List Bool} {d d' : Decoder} {b : Bool} {r : Option Report} →
     Answers d b r d' → At bits d' → Given bits r → Keeps bits (bit_answer d b)
 keeps answers at given = record { at = rw answers.leaves at; given = rw answers.reports given }
 

@@ -7,41 +7,44 @@ use Prim.Native.Nat.{ℕ, zero, suc, ◌+◌, ◌≤◌, ◌<◌}
 use native.Mathlib.Omega.{arith}
 use native.Mathlib.Numerals.{add-one}
 use borrow.Author.Tests.{lt-ltb, le-ltb}
+use Rattle.std.specs.Prelude.{Option, None, Some}
 use Rattle.characters.specs.Decoder.{stops, silence, tick_step}
 use Rattle.characters.specs.Refusals.{bad_phase, bad_decoder, is_stopped}
 use Rattle.characters.specs.Calls.{bit_answer, tick_answer, decode_accepted, decode_refused}
-use Rattle.characters.specs.States.{Phase, Decoder, Fresh, Heard, Stopped, Decoded, Report, Nothing, Disconnect}
+use Rattle.characters.specs.declared.reports.Report.{Report}
+use Rattle.characters.specs.declared.reports.Report.TheVariants.{Disconnect}
+use Rattle.characters.specs.States.{Phase, Decoder, Fresh, Heard, Stopped, Decoded}
 use Rattle.characters_stream.specs.GoodStates.{Call, bit, tick, left, left_all}
 use Rattle.characters_stream.specs.Ticks.{told}
 use Rattle.characters_stream.proofs.SilenceLaws.{ticks}
 
 -- `Tells d call r d'`: the call on d reports r and leaves d'
-pub record Tells (d : Decoder) (call : Call) (r : Report) (d' : Decoder) : Type 0 where
+pub record Tells (d : Decoder) (call : Call) (r : Option Report) (d' : Decoder) : Type 0 where
   pub tells : told d call ≡ r
   pub leaves : left d call ≡ d'
 
-pub fresh_tick : Tells Fresh tick Nothing Fresh
+pub fresh_tick : Tells Fresh tick None Fresh
 unfolding tick_answer decode_accepted
 fresh_tick = record { tells = refl; leaves = refl }
 
-pub stopped_tells : (call : Call) → Tells Stopped call Nothing Stopped
+pub stopped_tells : (call : Call) → Tells Stopped call None Stopped
 unfolding bit_answer tick_answer decode_refused
 stopped_tells (bit b) = record { tells = refl; leaves = refl }
 stopped_tells tick = record { tells = refl; leaves = refl }
 
-tick_accepted : (d : Decoder) {r : Report} {d' : Decoder} → bad_decoder d ≡ false → is_stopped d ≡ false →
+tick_accepted : (d : Decoder) {r : Option Report} {d' : Decoder} → bad_decoder d ≡ false → is_stopped d ≡ false →
     tick_step d ≡ record { decoder = d'; report = r } → Tells d tick r d'
 unfolding tick_answer decode_accepted
 tick_accepted d {r} {d'} passes going step =
     let e : tick_answer d ≡ record { refusal = 0; decoder = d'; report = r } = rw (passes, going, step) in
     record { tells = ap (λ (a : Decoded). a.report) e; leaves = ap (λ (a : Decoded). a.decoder) e }
 
-pub tick_counts : (p : Phase) (k : ℕ) → bad_phase p ≡ false → k < 8 → Tells (Heard p k) tick Nothing (Heard p (suc k))
+pub tick_counts : (p : Phase) (k : ℕ) → bad_phase p ≡ false → k < 8 → Tells (Heard p k) tick None (Heard p (suc k))
 unfolding silence
 tick_counts p k passes more =
     tick_accepted (Heard p k) (rw (le-ltb 8 k (omega arith)) passes) refl (rw (lt-ltb k 8 more, add-one k))
 
-pub tick_ends : (p : Phase) → bad_phase p ≡ false → Tells (Heard p 8) tick Disconnect Stopped
+pub tick_ends : (p : Phase) → bad_phase p ≡ false → Tells (Heard p 8) tick (Some Disconnect) Stopped
 unfolding silence stops
 tick_ends p passes = tick_accepted (Heard p 8) passes refl refl
 
@@ -51,8 +54,8 @@ unfolding bit_answer
 bit_heard p k b passes few = rw (le-ltb 8 k few, passes)
 
 -- what is reported on the last of some calls
-unfoldable pub last_told : Decoder → List Call → Report
-last_told d [] = Nothing
+unfoldable pub last_told : Decoder → List Call → Option Report
+last_told d [] = None
 last_told d (c ∷ []) = told d c
 last_told d (c ∷ c' ∷ calls) = last_told (left d c) (c' ∷ calls)
 
@@ -69,7 +72,7 @@ left_append d (x ∷ xs) ys = left_append (left d x) xs ys
 
 -- from k ticks on, the ninth reports the disconnect
 pub runs_out : (p : Phase) (k more : ℕ) → bad_phase p ≡ false → k + more ≡ 8 →
-    last_told (Heard p k) (tick ∷ ticks more) ≡ Disconnect
+    last_told (Heard p k) (tick ∷ ticks more) ≡ Some Disconnect
 unfolding last_told
 runs_out p k zero passes eight =
     let e : k ≡ 8 = omega arith in

@@ -7,10 +7,12 @@ use mathlib.Core.List.{List, [], ◌∷◌, ◌++◌, append_assoc, concat-ne-ni
 use Prim.Native.Nat.{ℕ, suc, ◌≤◌, ◌<◌}
 use native.Mathlib.Omega.{arith}
 use native.Mathlib.Decide.{dec_lt}
+use Rattle.std.specs.Prelude.{Option, None, Some}
 use Rattle.characters.specs.Refusals.{bad_phase, is_stopped}
 use Rattle.characters.specs.Calls.{bit_answer}
-use Rattle.characters.specs.States.{Phase, Decoder, Fresh, Heard, Stopped, Decoded, Report, Nothing, Got, ParityError}
-use Rattle.characters.specs.States.{EscapeError, Disconnect}
+use Rattle.characters.specs.declared.reports.Report.{Report}
+use Rattle.characters.specs.declared.reports.Report.TheVariants.{Disconnect}
+use Rattle.characters.specs.States.{Phase, Decoder, Fresh, Heard, Stopped, Decoded}
 use Rattle.characters_stream.specs.Feeding.{after}
 use Rattle.characters_stream.specs.GoodStates.{Call, bit, tick, left, left_all}
 use Rattle.characters_stream.specs.Ticks.{bits_in, nine_ticks, WasSilent, Failed, ReportedOn, on_bit, on_tick}
@@ -60,29 +62,23 @@ bit_tells {calls} at none b =
     }
 
 -- what is reported is given by a rule
-abbrev GivenOn : List Call → Report → Type 0
-GivenOn calls Nothing = Unit {0}
-GivenOn calls (Got t) = ReportedOn calls (Got t)
-GivenOn calls ParityError = ReportedOn calls ParityError
-GivenOn calls EscapeError = ReportedOn calls EscapeError
-GivenOn calls Disconnect = ReportedOn calls Disconnect
+abbrev GivenOn : List Call → Option Report → Type 0
+GivenOn calls None = Unit {0}
+GivenOn calls (Some r) = ReportedOn calls r
 
 -- `Keeps calls d call`: the call on d keeps to that, these being the calls with it
 record Keeps (calls : List Call) (d : Decoder) (call : Call) : Type 0 where
   at : Stands calls (left d call)
   given : GivenOn calls (told d call)
 
-keeps : {calls : List Call} {d d' : Decoder} {call : Call} {r : Report} →
+keeps : {calls : List Call} {d d' : Decoder} {call : Call} {r : Option Report} →
     Tells d call r d' → Stands calls d' → GivenOn calls r → Keeps calls d call
 keeps tells at given = record { at = rw tells.leaves at; given = rw tells.tells given }
 
-bit_given : (calls : List Call) (b : Bool) (r : Report) → (WasSilent calls → ⊥) → Given (bits_in calls ++ b ∷ []) r →
+bit_given : (calls : List Call) (b : Bool) (r : Option Report) → (WasSilent calls → ⊥) → Given (bits_in calls ++ b ∷ []) r →
     GivenOn (calls ++ bit b ∷ []) r
-bit_given calls b Nothing none given = tt
-bit_given calls b (Got t) none given = on_bit calls b none given
-bit_given calls b ParityError none given = on_bit calls b none given
-bit_given calls b EscapeError none given = on_bit calls b none given
-bit_given calls b Disconnect none given = on_bit calls b none given
+bit_given calls b None none given = tt
+bit_given calls b (Some r) none given = on_bit calls b none given
 
 bit_left_lem : (calls : List Call) (b : Bool) {d : Decoder} → (WasSilent calls → ⊥) → Bitten d →
     after Fresh (bits_in calls ++ b ∷ []) ≡ d → Stands (calls ++ bit b ∷ []) d
@@ -141,7 +137,7 @@ all_left =
     (λ calls call at. rw (left_append Fresh calls (call ∷ [])) (next_keeps at call).at)
 
 -- what a rule gives is reported
-meant : {calls : List Call} {r : Report} → ReportedOn calls r → last_told Fresh calls ≡ r
+meant : {calls : List Call} {r : Report} → ReportedOn calls r → last_told Fresh calls ≡ Some r
 unfolding last_told
 meant (on_bit calls b none at) =
     last_behind Fresh calls (bit b) [] ∙ (bit_tells (all_left calls) none b).tells ∙ reported at
@@ -153,21 +149,13 @@ meant (on_tick calls b none sound) =
     bits : List Bool
     bits = bits_in calls ++ b ∷ []
 
-    by : {d : Decoder} → Bitten d → after Fresh bits ≡ d → last_told d nine_ticks ≡ Disconnect
+    by : {d : Decoder} → Bitten d → after Fresh bits ≡ d → last_told d nine_ticks ≡ Some Disconnect
     by (going p) e = runs_out p 0 8 (heard_passes bits e) refl
     by gone e = absurd (sound (stopped_failed (rw e at (reached bits))))
 
--- a report that there is, is given by a rule
-some_given : {calls : List Call} (r : Report) → (r ≡ Nothing → ⊥) → GivenOn calls r → ReportedOn calls r
-some_given Nothing some given = absurd (some refl)
-some_given (Got t) some given = given
-some_given ParityError some given = given
-some_given EscapeError some given = given
-some_given Disconnect some given = given
-
 pub says_what_calls_mean : SaysWhatCallsMean
 unfolding last_told
-says_what_calls_mean calls call r some = (
-  λ e. some_given r some (rw e at (next_keeps (all_left calls) call).given),
+says_what_calls_mean calls call r = (
+  λ e. rw e at (next_keeps (all_left calls) call).given,
   λ at. sym (last_behind Fresh calls call []) ∙ meant at,
 )

@@ -2,7 +2,9 @@
 -- Assumes nothing.
 use Rattle.std.specs.Prelude.{◌≡◌, Bool, true, false, List, [], ◌∷◌, ◌++◌, ℕ}
 use Rattle.vocabulary.specs.declared.Token.TheVariants.{Null, TimeCode}
-use Rattle.characters.specs.States.{Fresh, Report, Got, ParityError, EscapeError}
+use Rattle.characters.specs.declared.reports.Report.{Report}
+use Rattle.characters.specs.declared.reports.Report.TheVariants.{Got, ParityError, EscapeError}
+use Rattle.characters.specs.States.{Fresh}
 use Rattle.characters_stream.specs.Meaning.{Line, eight_bits}
 use Rattle.characters_stream.specs.Feeding.{fed}
 

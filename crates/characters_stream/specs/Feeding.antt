@@ -1,17 +1,15 @@
 -- The decoder fed with bits one by one, by its call as promised, and what is claimed of it.
 -- Assumes nothing.
-use Rattle.std.specs.Prelude.{◌≡◌, Bool, List, [], ◌∷◌, ◌++◌, ℕ, ◌+◌}
+use Rattle.std.specs.Prelude.{◌≡◌, Bool, List, [], ◌∷◌, ◌++◌, ℕ, ◌+◌, Option, None, Some}
 use Rattle.characters.specs.Calls.{bit_answer}
-use Rattle.characters.specs.States.{Decoder, Fresh, Report, Nothing, Got, ParityError, EscapeError, Disconnect}
+use Rattle.characters.specs.declared.reports.Report.{Report}
+use Rattle.characters.specs.States.{Decoder, Fresh}
 use Rattle.characters_stream.specs.Meaning.{Line, Lists, ReportedAt}
 
 -- the line of a call's report, if it made one
-abbrev pub line_of : ℕ → Report → List Line
-line_of n Nothing = []
-line_of n (Got t) = record { at = n; report = Got t } ∷ []
-line_of n ParityError = record { at = n; report = ParityError } ∷ []
-line_of n EscapeError = record { at = n; report = EscapeError } ∷ []
-line_of n Disconnect = record { at = n; report = Disconnect } ∷ []
+abbrev pub line_of : ℕ → Option Report → List Line
+line_of n None = []
+line_of n (Some r) = record { at = n; report = r } ∷ []
 
 -- the lines of the calls, the first bit being number n
 unfoldable pub fed : Decoder → ℕ → List Bool → List Line

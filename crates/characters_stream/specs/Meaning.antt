@@ -7,7 +7,10 @@ use Rattle.vocabulary.specs.declared.Token.{Token}
 use Rattle.vocabulary.specs.declared.Token.TheVariants.{Null, Fct, NChar, TimeCode}
 use Rattle.characters.specs.Bits.{odd, number}
 use Rattle.characters.specs.Decoder.{escaped}
-use Rattle.characters.specs.States.{Waiting, Reported, Whole, Esc, Report, Got, ParityError, EscapeError}
+use Rattle.characters.specs.declared.reports.Report.{Report}
+use Rattle.characters.specs.declared.reports.Report.TheVariants.{Got, ParityError, EscapeError}
+use Rattle.characters.specs.declared.reports.Waiting.{Waiting}
+use Rattle.characters.specs.declared.reports.Waiting.TheVariants.{Reported, Whole, Esc}
 
 -- "From fresh it hunts for the eight bits 01110100."
 abbrev pub eight_bits : List Bool

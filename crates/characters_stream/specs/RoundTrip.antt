@@ -8,7 +8,9 @@ use Rattle.vocabulary.specs.declared.Token.TheVariants.{Null, Fct, NChar, TimeCo
 use Rattle.characters.specs.Bits.{bits_of}
 use Rattle.characters.specs.Encoder.{fresh_encoder}
 use Rattle.characters.specs.Calls.{encode_answer}
-use Rattle.characters.specs.States.{Encoder, Fresh, Report, Got}
+use Rattle.characters.specs.declared.reports.Report.{Report}
+use Rattle.characters.specs.declared.reports.Report.TheVariants.{Got}
+use Rattle.characters.specs.States.{Encoder, Fresh}
 use Rattle.characters_stream.specs.Meaning.{Line}
 use Rattle.characters_stream.specs.Feeding.{fed}
 

@@ -1,9 +1,11 @@
 -- What a list of calls since fresh means, ticks among the bits (01, Characters on the wire, Decoder), by rules on all the
 -- calls so far. What no rule gives is not reported.
 -- Assumes nothing.
-use Rattle.std.specs.Prelude.{◌≡◌, Bool, true, false, List, [], ◌∷◌, ◌++◌, ◌↔◌}
+use Rattle.std.specs.Prelude.{◌≡◌, Bool, true, false, List, [], ◌∷◌, ◌++◌, ◌↔◌, Option, Some}
 use Rattle.characters.specs.Calls.{bit_answer, tick_answer}
-use Rattle.characters.specs.States.{Decoder, Fresh, Report, Nothing, Got, ParityError, EscapeError, Disconnect}
+use Rattle.characters.specs.declared.reports.Report.{Report}
+use Rattle.characters.specs.declared.reports.Report.TheVariants.{Got, ParityError, EscapeError, Disconnect}
+use Rattle.characters.specs.States.{Decoder, Fresh}
 use Rattle.characters_stream.specs.Meaning.{ReportedAt}
 use Rattle.characters_stream.specs.GoodStates.{Call, bit, tick, left_all}
 
@@ -21,7 +23,6 @@ abbrev pub WasSilent : List Call → Type 0
 WasSilent calls = (before : List Call) × (b : Bool) × (rest : List Call) × (calls ≡ before ++ (bit b ∷ nine_ticks ++ rest))
 
 abbrev pub is_error : Report → Bool
-is_error Nothing = false
 is_error (Got t) = false
 is_error ParityError = true
 is_error EscapeError = true
@@ -44,12 +45,12 @@ pub data ReportedOn : List Call → Report → Type 0 where
       (WasSilent calls → ⊥) → (Failed (bits_in calls ++ b ∷ []) → ⊥) → ReportedOn (calls ++ bit b ∷ nine_ticks) Disconnect
 
 -- what a call on a decoder reports
-abbrev pub told : Decoder → Call → Report
+abbrev pub told : Decoder → Call → Option Report
 told d (bit b) = (bit_answer d b).report
 told d tick = (tick_answer d).report
 
 -- Called from fresh with bits and ticks in any order, it reports just what the calls mean.
 abbrev pub SaysWhatCallsMean : Type 0
 SaysWhatCallsMean =
-    (calls : List Call) (call : Call) (r : Report) → (r ≡ Nothing → ⊥) →
-    (told (left_all Fresh calls) call ≡ r) ↔ ReportedOn (calls ++ call ∷ []) r
+    (calls : List Call) (call : Call) (r : Report) →
+    (told (left_all Fresh calls) call ≡ Some r) ↔ ReportedOn (calls ++ call ∷ []) r
