@@ -4,9 +4,9 @@ use Rattle.std.specs.Prelude.{List, ℕ}
 use contract.Lifetimes.{Lfts}
 use denote.Triple.Clauses.{AtExit}
 use borrow.Fn.Kinds.{ParamKind, ResultKind, Out, Dens, res_t, ended_of}
-use Rattle.characters.proofs.encoder.encode as encode
-use Rattle.characters.proofs.decoder.bit as bit
-use Rattle.characters.proofs.decoder.tick as decoder_tick
+use Rattle.neftolek.proofs.character_calls.neftolek_encode as encode
+use Rattle.neftolek.proofs.character_calls.neftolek_decoder_bit as bit
+use Rattle.neftolek.proofs.character_calls.neftolek_decoder_tick as decoder_tick
 use Rattle.neftolek.proofs.link_calls.neftolek_link_tick as tick
 use Rattle.neftolek.proofs.link_calls.neftolek_link_fault as fault
 use Rattle.neftolek.proofs.link_calls.neftolek_link_control as control
