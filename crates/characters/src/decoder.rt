@@ -92,14 +92,17 @@ fn shift(places: u32, b: bool) -> u32
 // Each of these takes a bit in its phase.
 #[tactic(auto, unfolding(crate::specs::Decoder::hunts, crate::specs::Decoder::goes_on))]
 fn hunt(words: &mut Words, places: u32, b: bool) -> Option<Report>
-    ensures { Made (hunts places b) words.new result }
+    ensures { (k s p : ℕ) → words.old ≡ k ∷ s ∷ 0 ∷ 0 ∷ 0 ∷ 0 ∷ p ∷ [] →
+        Made (hunts places b) words.new result }
 {
     let next = shift(places, b);
     if next == HUNTED_FOR {
         *words = between(Waiting::Reported);
         Some(Report::Got(Token::Null))
     } else {
-        *words = [Phase::Hunting as u32, 0, 0, 0, 0, 0, next];
+        words[PHASE] = Phase::Hunting as u32;
+        words[SILENT] = 0;
+        words[PLACES] = next;
         None
     }
 }
@@ -234,7 +237,7 @@ pub fn bit(words: &mut Words, bit: u32) -> Result<Option<Report>, Refusal>
         ≡ bit_left words.old bit }
 {
     let b = words::truth(bit);
-    match decoder_tests::phase_of(*words)? {
+    match decoder_tests::phase_of(words)? {
         Phase::Fresh => Ok(hunt(words, NO_BITS, b)),
         Phase::Hunting => {
             let places = words[PLACES];
@@ -268,7 +271,7 @@ pub fn tick(words: &mut Words) -> Result<Option<Report>, Refusal>
     ensures { record { refusal = refusal_in result; state = words.new; out = report_words (answer_in None result) }
         ≡ tick_left words.old }
 {
-    match decoder_tests::phase_of(*words)? {
+    match decoder_tests::phase_of(words)? {
         Phase::Fresh => Ok(None),
         Phase::Stopped => Err(Refusal::Stopped),
         _ => Ok(silent_tick(words)),

@@ -12,8 +12,9 @@ use crate::phases::Phase;
 use vocabulary::Refusal;
 
 // No word is above the largest that is allowed in its place.
-fn within(words: Words, most: Words) -> bool
-    ensures { result ≡ within words most }
+#[inline(always)]
+fn within(words: &Words, most: Words) -> bool
+    ensures { result ≡ within words.now most }
 {
     (words[PHASE] <= most[PHASE])
         & (words[SILENT] <= most[SILENT])
@@ -25,6 +26,7 @@ fn within(words: Words, most: Words) -> bool
 }
 
 // The largest value that something with this number waits with. Nothing, NULL, FCT and ESC wait with the value 0.
+#[inline(always)]
 fn most_value(number: u32) -> u32
     ensures { result ≡ most_value number }
 {
@@ -35,9 +37,10 @@ fn most_value(number: u32) -> u32
     }
 }
 
-fn fits(phase: Phase, words: Words) -> bool
-    requires { word_at words phase_at ≡ phase_number phase }
-    ensures { result ≡ is_good words }
+#[inline(always)]
+fn fits(phase: Phase, words: &Words) -> bool
+    requires { word_at words.now phase_at ≡ phase_number phase }
+    ensures { result ≡ is_good words.now }
 {
     match phase {
         Phase::Fresh | Phase::Stopped => within(words, [7, 0, 0, 0, 0, 0, 0]),
@@ -63,8 +66,9 @@ fn fits(phase: Phase, words: Words) -> bool
 }
 
 // The phase of good words; any others are refused.
-pub(crate) fn phase_of(words: Words) -> Result<Phase, Refusal>
-    ensures { result ≡ pick (is_good words) (phase_numbered (word_at words phase_at)) (Err STATE) }
+#[inline(always)]
+pub(crate) fn phase_of(words: &Words) -> Result<Phase, Refusal>
+    ensures { result ≡ pick (is_good words.now) (phase_numbered (word_at words.now phase_at)) (Err STATE) }
 {
     let phase = Phase::try_from(words[PHASE])?;
     vocabulary::refuse(!fits(phase, words), Refusal::State)?;

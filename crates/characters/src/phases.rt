@@ -21,6 +21,7 @@ impl TryFrom<u32> for Phase {
 
     ghost try_from_gives = { λ n phase. phase ≡ phase_numbered n };
 
+    #[inline(always)]
     fn try_from(number: u32) -> Result<Phase, Refusal> {
         match number {
             0 => Ok(Phase::Fresh),

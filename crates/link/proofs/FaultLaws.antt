@@ -1,6 +1,6 @@
 -- A number that no fault has meets the tests of a received token that is none: those of every call, then CHAR.
 -- Assumes nothing.
-use Prim.Native.Nat.{ℕ, suc, ◌≤◌}
+use Prim.Native.Nat.{ℕ, ◌≤◌}
 use mathlib.Core.Path.{◌≡◌, refl, sym, ap, ◌∙◌}
 use mathlib.Core.Bool.{Bool, true, false, ◌||◌, true≢false}
 use mathlib.Core.List.{List, [], ◌∷◌}
@@ -12,7 +12,6 @@ use Rattle.vocabulary.specs.Choice.{pick}
 use Rattle.vocabulary.specs.Refusals.{CHAR, number}
 use Rattle.vocabulary.specs.declared.Refusal.{Refusal}
 use Rattle.vocabulary.specs.declared.Token.{Token}
-use Rattle.vocabulary.proofs.RefusalLaws.{not_none}
 use Rattle.words.specs.Arguments.{no_token}
 use Rattle.store.specs.Ring.{bad_store}
 use Rattle.store.proofs.OrLaws.{or_left, or_right}
@@ -104,5 +103,4 @@ pub fault_refused_as : (words rx tx : List ℕ) (kind : ℕ) (r : Refusal) →
     number r ≡ fault_refused words (length rx) (length tx) kind →
     record { refusal = number r; state = words; places = rx; out = 0 ∷ [] } ≡ fault_left words rx tx kind
 fault_refused_as words rx tx kind r e =
-    told (fault_left words rx tx kind) (number r) words rx (0 ∷ []) (fault_refusal words rx tx kind ∙ sym e) (not_none r)
-    (link_stays.fault words rx tx kind)
+    told (fault_left words rx tx kind) r (e ∙ sym (fault_refusal words rx tx kind)) (link_stays.fault words rx tx kind)

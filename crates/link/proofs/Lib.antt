@@ -1,6 +1,7 @@
 pub mod TableLaws
 pub mod TestLaws
 pub mod TestedLaws
+pub mod AnswerLaws
 pub mod FieldLaws
 pub mod RecordLaws
 pub mod FaultLaws
@@ -9,4 +10,3 @@ pub mod RefusedLaws
 pub mod CallLaws
 pub mod StayLaws
 pub mod StoreFits
-pub mod HostCallLaws

@@ -22,11 +22,10 @@ use Rattle.time.specs.Time.{bad_time}
 use Rattle.link.specs.Refusals.{bad_record, bad_rx_size, bad_tx_size, bad_receive, both_tests, both_refusal, receive_tests}
 use Rattle.link.specs.Refusals.{receive_refusal, put_tests, put_refusal, take_tests, take_refusal, offer_tests}
 use Rattle.link.specs.Refusals.{offer_refusal}
-use Rattle.link.specs.Records.{Link}
 use Rattle.link.specs.LinkWords.{TIMER, link_words, link_of, stage_in, is_link, time_of, is_time}
 use Rattle.link.specs.LinkCalls.{both_refused, no_fault, fault_refused, receive_refused, put_refused, take_refused}
 use Rattle.link.specs.LinkCalls.{offer_refused}
-use Rattle.link.specs.InPlace.{Good, Reads}
+use Rattle.link.specs.InPlace.{Good}
 use Rattle.link.proofs.RecordLaws.{timer_small}
 use Rattle.link.proofs.LinkLaws.{own_words, offer_fits, state_small}
 
@@ -136,19 +135,6 @@ take words rx e =
 
 pub offer : (words : List ℕ) → offer_refused words ≡ 0 → Accepted words (offer_refusal (link_of words))
 offer words e = (record_first words (drop 1 (offer_tests (link_of words))) e).0
-
--- The tests of words that are an end's, or STATE: a call's other tests stand behind those of the record.
-pub of_end : (words : List ℕ) {no bad : Bool} {later : ℕ} (tests : Link → ℕ) →
-    no ≡ not (is_link words) → Reads words bad_record bad → Reads words tests later →
-    pick (no || bad) (number STATE) later
-    ≡ pick (is_link words) (pick (bad_record (link_of words)) (number STATE) (tests (link_of words))) (number STATE)
-of_end words {no} {bad} {later} tests n b t = by (is_link words) refl
-  where
-    by : (link : Bool) → is_link words ≡ link →
-        pick (no || bad) (number STATE) later
-        ≡ pick link (pick (bad_record (link_of words)) (number STATE) (tests (link_of words))) (number STATE)
-    by true p = rw (n, p, b (link_of words) (own_words words p), t (link_of words) (own_words words p))
-    by false p = rw (n, p)
 
 -- The time record is tested with the end's, and later tests stand behind those of every call.
 pub in_order : (link clock own late size stores : Bool) (later : ℕ) →

@@ -49,23 +49,28 @@ unfolding answer_left accepted refused answered refused_with
 answer_stays words e s n true same nonzero = absurd (nonzero refl)
 answer_stays words e s n false same nonzero = (same, refl, refl)
 
-tick_stays : (words rx tx : List ℕ) → StaysWith words rx (0 ∷ []) (tick_left words rx tx)
-unfolding tick_left tick_outcome end_of
-tick_stays words rx tx =
+-- an answer of a call on both stores: `s` is what its rule makes of the end
+pub call_stays : (words rx tx : List ℕ) (s : Settled) →
+    StaysWith words rx (0 ∷ [])
+    (pick (is_link words)
+    (answer_left (pick (eqb (both (end_of words rx tx)) 0) (accepted s) (refused (end_of words rx tx) (both (end_of words rx tx)))))
+    (no_link words rx (0 ∷ [])))
+unfolding end_of
+call_stays words rx tx s =
     either words rx (0 ∷ []) (is_link words) _
-    (λ p. answer_stays words (end_of words rx tx) _ _ (eqb (both (end_of words rx tx)) 0) (own words p))
+    (λ p. answer_stays words (end_of words rx tx) s _ (eqb (both (end_of words rx tx)) 0) (own words p))
+
+tick_stays : (words rx tx : List ℕ) → StaysWith words rx (0 ∷ []) (tick_left words rx tx)
+unfolding tick_left tick_outcome
+tick_stays words rx tx = call_stays words rx tx _
 
 reset_stays : (words rx tx : List ℕ) → StaysWith words rx (0 ∷ []) (reset_left words rx tx)
-unfolding reset_left reset_outcome end_of
-reset_stays words rx tx =
-    either words rx (0 ∷ []) (is_link words) _
-    (λ p. answer_stays words (end_of words rx tx) _ _ (eqb (both (end_of words rx tx)) 0) (own words p))
+unfolding reset_left reset_outcome
+reset_stays words rx tx = call_stays words rx tx _
 
 control_stays : (words rx tx : List ℕ) (c : Controls) → StaysWith words rx (0 ∷ []) (control_left words rx tx c)
-unfolding control_left control_outcome end_of
-control_stays words rx tx c =
-    either words rx (0 ∷ []) (is_link words) _
-    (λ p. answer_stays words (end_of words rx tx) _ _ (eqb (both (end_of words rx tx)) 0) (own words p))
+unfolding control_left control_outcome
+control_stays words rx tx c = call_stays words rx tx _
 
 fault_kept : (words : List ℕ) (e : End) (f : FaultKind) → link_words e.link ≡ words →
     StaysWith words e.rx (0 ∷ []) (answer_left (fault_outcome e f))

@@ -8,9 +8,10 @@ use Prim.Native.Nat.{ℕ, zero, suc, ◌+◌, ◌-◌, ◌*◌, ◌/◌, ◌%◌
 use native.Mathlib.Omega.{arith}
 use lib.Dec.{T, eqb, eqb→eq}
 use lib.ListN.{get_or}
-use borrow.Author.Tests.{eq-eqb, ne_eqb}
+use denote.Enum.Bare.{sameb}
+use Rattle.link.specs.contracts.LinkState.{the_type}
 use Rattle.vocabulary.specs.Choice.{pick}
-use Rattle.vocabulary.proofs.Below.{below, each, each_at}
+use Rattle.vocabulary.proofs.Below.{below, every, same, same_eq, each, each_at}
 use Rattle.words.specs.Words.{word_at}
 use Rattle.link.specs.Moves.{state_number, is_state, event_number, Conditions, state_after}
 use Rattle.link.specs.Table.{table_at, states, state_of, column_holds, first_from, looked_up, SaysMoves, FindsFirstThatFits}
@@ -22,14 +23,18 @@ use Rattle.link.specs.declared.Event.{Event}
 use Rattle.link.specs.declared.Event.TheVariants.{Quiet, Fault, GotFct, GotNChar, GotTimeCode, CreditError}
 
 -- the constants, as the code has them
-abbrev pub next : List (List ℕ)
+abbrev pub next : List (List LinkState)
 next =
-    (0 ∷ 0 ∷ 0 ∷ 0 ∷ 0 ∷ 0 ∷ 0 ∷ 0 ∷ 0 ∷ 1 ∷ [])
-    ∷ (1 ∷ 0 ∷ 0 ∷ 0 ∷ 0 ∷ 1 ∷ 1 ∷ 1 ∷ 1 ∷ 2 ∷ [])
-    ∷ (2 ∷ 0 ∷ 0 ∷ 0 ∷ 0 ∷ 2 ∷ 3 ∷ 2 ∷ 2 ∷ 2 ∷ [])
-    ∷ (3 ∷ 0 ∷ 0 ∷ 0 ∷ 0 ∷ 3 ∷ 3 ∷ 4 ∷ 3 ∷ 0 ∷ [])
-    ∷ (4 ∷ 0 ∷ 5 ∷ 0 ∷ 0 ∷ 4 ∷ 4 ∷ 4 ∷ 4 ∷ 0 ∷ [])
-    ∷ (5 ∷ 0 ∷ 5 ∷ 5 ∷ 5 ∷ 0 ∷ 5 ∷ 5 ∷ 0 ∷ 5 ∷ [])
+    (ErrorReset ∷ ErrorWait ∷ Ready ∷ Started ∷ Connecting ∷ Run ∷ [])
+    ∷ (ErrorReset ∷ ErrorReset ∷ ErrorReset ∷ ErrorReset ∷ ErrorReset ∷ ErrorReset ∷ [])
+    ∷ (ErrorReset ∷ ErrorReset ∷ ErrorReset ∷ ErrorReset ∷ Run ∷ Run ∷ [])
+    ∷ (ErrorReset ∷ ErrorReset ∷ ErrorReset ∷ ErrorReset ∷ ErrorReset ∷ Run ∷ [])
+    ∷ (ErrorReset ∷ ErrorReset ∷ ErrorReset ∷ ErrorReset ∷ ErrorReset ∷ Run ∷ [])
+    ∷ (ErrorReset ∷ ErrorWait ∷ Ready ∷ Started ∷ Connecting ∷ ErrorReset ∷ [])
+    ∷ (ErrorReset ∷ ErrorWait ∷ Started ∷ Started ∷ Connecting ∷ Run ∷ [])
+    ∷ (ErrorReset ∷ ErrorWait ∷ Ready ∷ Connecting ∷ Connecting ∷ Run ∷ [])
+    ∷ (ErrorReset ∷ ErrorWait ∷ Ready ∷ Started ∷ Connecting ∷ ErrorReset ∷ [])
+    ∷ (ErrorWait ∷ Ready ∷ Ready ∷ ErrorReset ∷ ErrorReset ∷ Run ∷ [])
     ∷ []
 
 pub number_small : (s : LinkState) → state_number s < 6
@@ -40,14 +45,6 @@ number_small Started = omega arith
 number_small Connecting = omega arith
 number_small Run = omega arith
 
-pub event_small : (e : Event) → event_number e < 10
-event_small Quiet = omega arith
-event_small Fault = omega arith
-event_small GotFct = omega arith
-event_small GotNChar = omega arith
-event_small GotTimeCode = omega arith
-event_small CreditError = omega arith
-
 pub state_of_number : (s : LinkState) → state_of (state_number s) ≡ s
 state_of_number ErrorReset = refl
 state_of_number ErrorWait = refl
@@ -56,32 +53,22 @@ state_of_number Started = refl
 state_of_number Connecting = refl
 state_of_number Run = refl
 
-pub number_of_state : (n : ℕ) → n < 6 → state_number (state_of n) ≡ n
-number_of_state n h = eqb→eq (state_number (state_of n)) n (below (λ (k : ℕ). eqb (state_number (state_of k)) k) 6 tt n h)
-
--- an entry is right: it has the number of what its row says in its column
-abbrev right : ℕ → Bool
-right k = eqb (get_or (get_or next (k / 10) []) (k % 10) 0) (state_number (table_at (state_of (k / 10)) (k % 10)))
-
-entry_right : (k : ℕ) → k < 60 → get_or (get_or next (k / 10) []) (k % 10) 0 ≡ state_number (table_at (state_of (k / 10)) (k % 10))
-entry_right k h =
-    eqb→eq (get_or (get_or next (k / 10) []) (k % 10) 0) (state_number (table_at (state_of (k / 10)) (k % 10))) (below right 60 tt k h)
-
-pub table_right : SaysMoves next
-table_right state column h k =
-    let n : ℕ = state * 10 + column in
-    let row : n / 10 ≡ state = omega arith in
-    let place : n % 10 ≡ column = omega arith in
-    subst (λ (r : ℕ). get_or (get_or next r []) column 0 ≡ state_number (table_at (state_of r) column)) row
-    (subst (λ (c : ℕ). get_or (get_or next (n / 10) []) c 0 ≡ state_number (table_at (state_of (n / 10)) c)) place
-    (entry_right n (omega arith)))
-
-abbrev pub events : List Event
-events = Quiet ∷ Fault ∷ GotFct ∷ GotNChar ∷ GotTimeCode ∷ CreditError ∷ []
+same_state : (s s' : LinkState) → T (is_state s s') → s ≡ s'
+same_state s s' h = sym (state_of_number s) ∙ ap state_of (eqb→eq (state_number s) (state_number s') h) ∙ state_of_number s'
 
 for_state : (f : LinkState → Bool) → T (each f states) → (s : LinkState) → T (f s)
 for_state f t s =
     subst (λ (x : LinkState). T (f x)) (state_of_number s) (each_at f states Run t (state_number s) (number_small s))
+
+-- two states are the same where their numbers are
+pub same_is_state : (s s' : LinkState) → sameb the_type s s' ≡ is_state s s'
+same_is_state s s' =
+    same_eq (sameb the_type s s') (is_state s s')
+    (for_state (λ (x : LinkState). same (sameb the_type x s') (is_state x s'))
+    (for_state (λ (y : LinkState). each (λ (x : LinkState). same (sameb the_type x y) (is_state x y)) states) tt s') s)
+
+abbrev pub events : List Event
+events = Quiet ∷ Fault ∷ GotFct ∷ GotNChar ∷ GotTimeCode ∷ CreditError ∷ []
 
 for_event : (f : Event → Bool) → T (each f events) → (e : Event) → T (f e)
 for_event f t Quiet = each_at f events Quiet t 0 (omega arith)
@@ -90,6 +77,15 @@ for_event f t GotFct = each_at f events Quiet t 2 (omega arith)
 for_event f t GotNChar = each_at f events Quiet t 3 (omega arith)
 for_event f t GotTimeCode = each_at f events Quiet t 4 (omega arith)
 for_event f t CreditError = each_at f events Quiet t 5 (omega arith)
+
+-- a cell is right: it is what its state's row says in its column
+abbrev right : LinkState → ℕ → Bool
+right s column = is_state (get_or (get_or next column []) (state_number s) ErrorReset) (table_at s column)
+
+pub table_right : SaysMoves next
+table_right s column h =
+    same_state (get_or (get_or next column []) (state_number s) ErrorReset) (table_at s column)
+    (below (right s) 10 (for_state (λ (s : LinkState). every (right s) 10) tt s) column h)
 
 abbrev pub bits : List Bool
 bits = true ∷ false ∷ []
@@ -138,30 +134,15 @@ agree s e c = is_state (looked_up s e c) (state_after s e c)
 
 pub looked_up_lem : FindsFirstThatFits
 unfolding first_from
-looked_up_lem s e c =
-    sym (state_of_number (looked_up s e c))
-    ∙ ap state_of (eqb→eq (state_number (looked_up s e c)) (state_number (state_after s e c)) (every_case agree tt s e c))
-    ∙ state_of_number (state_after s e c)
-
--- the word of an end's state, and a cell of its row
-module _ {words : List ℕ} (l : Link) (e : words ≡ link_words l) where
-  pub state_read : word_at words STATE ≡ state_number l.stage.state
-  unfolding link_words
-  state_read = rw e
-
-  pub cell_read : (column : ℕ) →
-      state_number (table_at (state_of (word_at words STATE)) column) ≡ state_number (table_at l.stage.state column)
-  cell_read column =
-      ap (λ (s : LinkState). state_number (table_at s column)) (ap state_of state_read ∙ state_of_number l.stage.state)
+looked_up_lem s e c = same_state (looked_up s e c) (state_after s e c) (every_case agree tt s e c)
 
 -- what came has moved it, or the others are looked at
-module _ (s : LinkState) (e : Event) (c : Conditions) where
-  pub event_moves : (state_number (table_at s (event_number e)) ≡ state_number s → ⊥) →
-      state_after s e c ≡ table_at s (event_number e)
-  event_moves h = sym (looked_up_lem s e c) ∙ rw (ne_eqb _ _ h)
+module _ (s : LinkState) (e : Event) (c : Conditions) (column : ℕ) (its : column ≡ event_number e) where
+  pub event_moves : is_state (table_at s column) s ≡ false → state_after s e c ≡ table_at s column
+  event_moves h = sym (looked_up_lem s e c) ∙ rw (← its, h)
 
-  pub event_stays : state_number (table_at s (event_number e)) ≡ state_number s → state_after s e c ≡ first_from s c 6 4
-  event_stays h = sym (looked_up_lem s e c) ∙ rw (eq-eqb _ _ h)
+  pub event_stays : is_state (table_at s column) s ≡ true → state_after s e c ≡ first_from s c 6 4
+  event_stays h = sym (looked_up_lem s e c) ∙ rw (← its, h)
 
 -- one column of the others: its cell is the state itself, or it holds, or the next ones are looked at
 module _ (s : LinkState) (c : Conditions) (column : ℕ) where
@@ -175,12 +156,12 @@ module _ (s : LinkState) (c : Conditions) (column : ℕ) where
   unfolding first_from
   first_next inside = let more : 10 - column ≡ suc (10 - (column + 1)) = omega arith in rw more
 
-  pub first_found : column < 10 → (state_number (table_at s column) ≡ state_number s → ⊥) → column_holds c column ≡ true →
+  pub first_found : column < 10 → is_state (table_at s column) s ≡ false → column_holds c column ≡ true →
       left column ≡ table_at s column
-  first_found inside h holds = first_next inside ∙ rw (ne_eqb _ _ h, holds)
+  first_found inside h holds = first_next inside ∙ rw (h, holds)
 
-  pub first_stays : column < 10 → state_number (table_at s column) ≡ state_number s → left column ≡ left (column + 1)
-  first_stays inside h = first_next inside ∙ rw (eq-eqb _ _ h)
+  pub first_stays : column < 10 → is_state (table_at s column) s ≡ true → left column ≡ left (column + 1)
+  first_stays inside h = first_next inside ∙ rw h
 
   pub first_passes : column < 10 → column_holds c column ≡ false → left column ≡ left (column + 1)
   first_passes inside h = first_next inside ∙ rw h (go (is_state (table_at s column) s))

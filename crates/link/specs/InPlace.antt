@@ -1,8 +1,9 @@
 -- What a function does to the words of an end that it is lent, said of the end whose words they are. A function that is lent
 -- other words refuses them before it comes to this.
 -- Assumes nothing.
-use Rattle.std.specs.Prelude.{ℕ, ◌^◌, ◌≤◌, ◌<◌, ◌≡◌, false, List, length}
-use Rattle.words.specs.Words.{narrow}
+use Rattle.std.specs.Prelude.{ℕ, ◌+◌, ◌^◌, ◌≤◌, ◌<◌, ◌≡◌, false, List, length, set}
+use Rattle.words.specs.Words.{word_at, narrow}
+use Rattle.store.specs.StoreWords.{store_of}
 use Rattle.store.specs.declared.Store.{Store}
 use Rattle.link.specs.Records.{Link, Effect}
 use Rattle.link.specs.Ends.{End, Settled}
@@ -24,6 +25,13 @@ SmallEnough places = length places ≤ 4096
 
 abbrev pub FitsStore : Store → Type 0
 FitsStore s = (s.front < 2 ^ 32) × (s.len < 2 ^ 32)
+
+-- the store whose two words stand from `at` on, and the words with another one there
+abbrev pub store_in : List ℕ → ℕ → Store
+store_in words at = store_of (word_at words at) (word_at words (at + 1))
+
+abbrev pub with_store : List ℕ → ℕ → Store → List ℕ
+with_store words at s = set (set words at s.front) (at + 1) s.len
 
 -- the same of an end whose record passed its tests, and whose Time-Code has eight bits
 abbrev pub Good : Link → Type 0

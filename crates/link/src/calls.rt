@@ -152,7 +152,10 @@ pub fn receive(
     let heard = received::token(words, rx, time_in(time), token);
     set_time(time, heard.time);
     let discarded = recovery::settle(heard.event, words, rx, tx);
-    Ok(Received { discarded, tick: heard.tick })
+    Ok(Received {
+        discarded,
+        tick: heard.tick,
+    })
 }
 
 // The host puts an N-Char to be sent: how many were discarded.

@@ -1,14 +1,15 @@
 // Where each field of an end stands in its words, and the fields that are more than a number or a truth.
+#![tactic(auto, unfolding(crate::specs::LinkWords::link_words, crate::specs::Ends::with_credit, crate::specs::Credit::with_held, crate::specs::Credit::with_given, crate::specs::Ends::with_rx, crate::specs::Ends::with_tx))]
+
 ghost use Rattle.std.specs.Prelude.{◌≡◌, ◌+◌, ◌<◌, length, set};
-ghost use Rattle.words.specs.Words.{word_at, truth_word};
-ghost use Rattle.store.specs.StoreWords.{store_of};
+ghost use Rattle.words.specs.Words.{truth_word};
+ghost use Rattle.store.specs.Changes.{put_store, put_places, without_first};
 ghost use Rattle.link.specs.declared.LinkState.{LinkState};
 ghost use Rattle.link.specs.Records.{Link};
-ghost use Rattle.link.specs.Moves.{is_state, state_number};
+ghost use Rattle.link.specs.Moves.{is_state};
 ghost use Rattle.link.specs.Table.{state_of};
-ghost use Rattle.link.specs.Ends.{with_rx, with_tx};
 ghost use Rattle.link.specs.Credit.{with_held, with_given};
-ghost use Rattle.link.specs.InPlace.{Reads, ReadsGood, Writes, FitsStore};
+ghost use Rattle.link.specs.InPlace.{Reads, ReadsGood, Writes, SmallEnough, FitsStore, store_in, with_store};
 
 use crate::{GivenOut, Held, LinkState};
 use store::Store;
@@ -80,20 +81,7 @@ pub(crate) fn set_truth(words: &mut Words, at: usize, b: bool)
     }
 }
 
-// A state's number, from 0 for ErrorReset to 5 for Run.
-pub(crate) fn state_number(s: LinkState) -> u32
-    ensures { result ≡ state_number s }
-{
-    match s {
-        LinkState::ErrorReset => 0,
-        LinkState::ErrorWait => 1,
-        LinkState::Ready => 2,
-        LinkState::Started => 3,
-        LinkState::Connecting => 4,
-        LinkState::Run => 5,
-    }
-}
-
+// Any number past the others is read as Run's; only words that no end has hold one.
 fn state_of(n: u32) -> LinkState
     ensures { result ≡ state_of n }
 {
@@ -116,8 +104,7 @@ pub(crate) fn state_in(words: &Words) -> LinkState
 pub(crate) fn is_in(words: &Words, s: LinkState) -> bool
     ensures { Reads words.now (λ (l : Link). is_state l.stage.state s) result }
 {
-    let number = state_number(s);
-    words[STATE] == number
+    words[STATE] == u32::from(s)
 }
 
 pub(crate) fn held_in(words: &Words) -> Held
@@ -135,45 +122,52 @@ pub(crate) fn given_in(words: &Words) -> GivenOut
 pub(crate) fn set_held(words: &mut Words, held: Held)
     ensures { Writes words.old (λ (l : Link). with_held l held.0) words.new }
 {
-    words[HELD] = held.0 as u32;
+    words[HELD] = u32::from(held.0);
 }
 
 pub(crate) fn set_given(words: &mut Words, given: GivenOut)
     ensures { Writes words.old (λ (l : Link). with_given l given.0) words.new }
 {
-    words[GIVEN_OUT] = given.0 as u32;
+    words[GIVEN_OUT] = u32::from(given.0);
 }
 
-// The record that the two words from k on mean.
-fn store_at(words: &[u32], k: usize) -> Store
-    requires { k + 1 < length words.now }
-    ensures { (result ≡ store_of (word_at words.now k) (word_at words.now (k + 1))) × FitsStore result }
+// The store whose two words stand from `at` on, RX or TX.
+#[tactic(auto, unfolding(store::specs::StoreWords::store_of))]
+pub(crate) fn store_at(words: &Words, at: usize) -> Store
+    requires { at < 19 }
+    ensures { (result ≡ store_in words.now at) × FitsStore result }
 {
-    store::store_of(words[k], words[k + 1])
+    Store::from([words[at], words[at + 1]])
 }
 
-pub(crate) fn rx_in(words: &Words) -> Store
-    ensures { Reads words.now (λ (l : Link). l.rx) result × FitsStore result }
+pub(crate) fn set_store(words: &mut Words, at: usize, s: Store)
+    requires { at < 19 }
+    ensures { FitsStore s → words.new ≡ with_store words.old at s }
 {
-    store_at(words, RX)
+    let [front, len] = <[u32; 2]>::from(s);
+    words[at] = front;
+    words[at + 1] = len;
 }
 
-pub(crate) fn tx_in(words: &Words) -> Store
-    ensures { Reads words.now (λ (l : Link). l.tx) result × FitsStore result }
+// One N-Char put into the store there, which has these places.
+#[tactic(auto, using(crate::proofs::StoreFits::put_fits))]
+pub(crate) fn put_at(words: &mut Words, at: usize, places: &mut [u16], n: u16)
+    requires { at < 19 }
+    ensures { (SmallEnough places.old →
+        words.new ≡ with_store words.old at (put_store (length places.old) (store_in words.old at) n))
+        × (places.new ≡ put_places places.old (store_in words.old at) n) }
 {
-    store_at(words, TX)
+    let store = store_at(words, at);
+    set_store(words, at, store.put(places, n));
 }
 
-pub(crate) fn set_rx(words: &mut Words, s: Store)
-    ensures { FitsStore s → Writes words.old (λ (l : Link). with_rx l s) words.new }
+// The first N-Char dropped from the store there.
+#[tactic(auto, using(crate::proofs::StoreFits::drop_fits))]
+pub(crate) fn drop_at(words: &mut Words, at: usize, places: &[u16])
+    requires { at < 19 }
+    ensures { SmallEnough places.now →
+        words.new ≡ with_store words.old at (without_first places.now (store_in words.old at)) }
 {
-    words[RX] = words::narrow(s.front);
-    words[RX_LEN] = words::narrow(s.len);
-}
-
-pub(crate) fn set_tx(words: &mut Words, s: Store)
-    ensures { FitsStore s → Writes words.old (λ (l : Link). with_tx l s) words.new }
-{
-    words[TX] = words::narrow(s.front);
-    words[TX_LEN] = words::narrow(s.len);
+    let store = store_at(words, at);
+    set_store(words, at, store.drop_first(places));
 }

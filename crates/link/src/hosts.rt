@@ -1,4 +1,6 @@
 // What the host does (01, Send, Going to ErrorReset by a move): put, take, offering a Time-Code, the controls.
+#![tactic(auto, unfolding(crate::specs::LinkWords::link_words, store::specs::StoreWords::store_of, crate::specs::Ends::with_marks, crate::specs::Ends::mark_put, crate::specs::Ends::mark_discarding, crate::specs::Ends::mark_taken, crate::specs::Hosts::put_discarded, crate::specs::Hosts::put_stored, crate::specs::Hosts::puts, crate::specs::Hosts::puts_places, crate::specs::Hosts::takes, crate::specs::Hosts::offers, crate::specs::Ends::with_offer, crate::specs::Ends::with_rx, crate::specs::Ends::with_tx, crate::specs::Ends::with_controls, crate::specs::LinkCalls::controls_of))]
+
 ghost use Rattle.std.specs.Prelude.{length};
 ghost use Rattle.link.specs.Records.{Link};
 ghost use Rattle.link.specs.Ends.{with_controls};
@@ -8,7 +10,7 @@ ghost use Rattle.link.specs.LinkCalls.{controls_of};
 ghost use Rattle.link.specs.InPlace.{Reads, Writes, SmallEnough};
 
 use crate::fields;
-use crate::fields::{AUTO, CODE, DISABLED, DISCARDING, OFFERED, PUT, START, TAKEN, Words};
+use crate::fields::{AUTO, CODE, DISABLED, DISCARDING, OFFERED, PUT, RX, START, TAKEN, TX, Words};
 
 fn put_discarded(words: &mut Words, n: u16)
     ensures { Writes words.old (λ (l : Link). (put_discarded l n).link) words.new }
@@ -22,8 +24,7 @@ fn put_stored(words: &mut Words, tx: &mut [u16], n: u16)
     ensures { (SmallEnough tx.old → Writes words.old (λ (l : Link). (put_stored (length tx.old) l n).link) words.new)
         × Reads words.old (λ (l : Link). put_places tx.old l.tx n) tx.new }
 {
-    let store = fields::tx_in(words);
-    fields::set_tx(words, store::put(store, tx, n));
+    fields::put_at(words, TX, tx, n);
     fields::set_truth(words, PUT, !vocabulary::is_end(n));
 }
 
@@ -47,9 +48,8 @@ pub(crate) fn take_one(words: &mut Words, rx: &[u16]) -> u16
     ensures { (SmallEnough rx.now → Writes words.old (λ (l : Link). takes rx.now l (taken_n_char rx.now l)) words.new)
         × Reads words.old (taken_n_char rx.now) result }
 {
-    let store = fields::rx_in(words);
-    let n = store::look(store, rx);
-    fields::set_rx(words, store::drop_first(store, rx));
+    let n = fields::store_at(words, RX).look(rx);
+    fields::drop_at(words, RX, rx);
     fields::set_truth(words, TAKEN, !vocabulary::is_end(n));
     n
 }

@@ -1,114 +1,89 @@
 // The moves (01, The link end): which state follows.
-ghost use Rattle.std.specs.Prelude.{◌≡◌, ◌&&◌, ◌<◌, leb};
+#![tactic(auto, unfolding(crate::specs::LinkWords::link_words, crate::specs::Moves::conditions, crate::specs::Moves::entered, crate::specs::Ends::with_stage))]
+
+ghost use Rattle.std.specs.Prelude.{◌≡◌, ◌<◌, ◌&&◌, leb};
 ghost use Rattle.link.specs.Records.{Link};
-ghost use Rattle.words.specs.Words.{word_at};
-ghost use Rattle.link.specs.Moves.{state_number, event_number, limit_of, counts_ticks, enabled_by, conditions};
-ghost use Rattle.link.specs.Moves.{next_state, entered};
-ghost use Rattle.link.specs.LinkWords.{STATE};
-ghost use Rattle.link.specs.Table.{table_at, state_of, column_holds, first_from, SaysMoves};
+ghost use Rattle.link.specs.Moves.{limit_of, counts_ticks, enabled_by, conditions, next_state, entered};
+ghost use Rattle.link.specs.Table.{table_at, column_holds, first_from};
 ghost use Rattle.link.specs.InPlace.{Reads, Writes};
 
-use crate::Event;
+use crate::LinkState::{Connecting, ErrorReset, ErrorWait, Ready, Run, Started};
 use crate::fields::{AUTO, DISABLED, GOT_NULL, NULL_SENT, START, STATE, TIMER, Words};
+use crate::{Event, LinkState, fields};
 
-type Table = [[u8; 10]; 6];
-
-// The next state for each state and kind of event, by number: a row for each state, a column for nothing, fault, FCT,
-// N-Char, Time-Code, credit error, then enabled, NULLs exchanged, LinkDisabled, timer at its limit. A state's own number is
-// no move.
-const NEXT: Table = [
-    [0, 0, 0, 0, 0, 0, 0, 0, 0, 1],
-    [1, 0, 0, 0, 0, 1, 1, 1, 1, 2],
-    [2, 0, 0, 0, 0, 2, 3, 2, 2, 2],
-    [3, 0, 0, 0, 0, 3, 3, 4, 3, 0],
-    [4, 0, 5, 0, 0, 4, 4, 4, 4, 0],
-    [5, 0, 5, 5, 5, 0, 5, 5, 0, 5],
+// The next state: a column for each event, then for each condition, and in it a cell for each state. A state in its own cell
+// is no move.
+static NEXT: [[LinkState; 6]; 10] = [
+    // Nothing came.
+    [ErrorReset, ErrorWait, Ready, Started, Connecting, Run],
+    // A fault.
+    [
+        ErrorReset, ErrorReset, ErrorReset, ErrorReset, ErrorReset, ErrorReset,
+    ],
+    // An FCT.
+    [ErrorReset, ErrorReset, ErrorReset, ErrorReset, Run, Run],
+    // An N-Char.
+    [
+        ErrorReset, ErrorReset, ErrorReset, ErrorReset, ErrorReset, Run,
+    ],
+    // A Time-Code.
+    [
+        ErrorReset, ErrorReset, ErrorReset, ErrorReset, ErrorReset, Run,
+    ],
+    // A credit error.
+    [
+        ErrorReset, ErrorWait, Ready, Started, Connecting, ErrorReset,
+    ],
+    // Enabled.
+    [ErrorReset, ErrorWait, Started, Started, Connecting, Run],
+    // NULLs exchanged.
+    [ErrorReset, ErrorWait, Ready, Connecting, Connecting, Run],
+    // LinkDisabled.
+    [
+        ErrorReset, ErrorWait, Ready, Started, Connecting, ErrorReset,
+    ],
+    // The timer at its limit.
+    [ErrorWait, Ready, Ready, ErrorReset, ErrorReset, Run],
 ];
 
-fn event_number(e: Event) -> u32
-    ensures { result ≡ event_number e }
-{
-    match e {
-        Event::Quiet => 0,
-        Event::Fault => 1,
-        Event::GotFct => 2,
-        Event::GotNChar => 3,
-        Event::GotTimeCode => 4,
-        Event::CreditError => 5,
-    }
-}
-
 // Where a state's timer moves it.
-pub(crate) fn limit(state: u32) -> u32
-    ensures { result ≡ limit_of (state_of state) }
+pub(crate) fn limit(state: LinkState) -> u32
+    ensures { result ≡ limit_of state }
 {
     match state {
-        0 => 64,
-        1 => 128,
-        2 => 1,
-        3 => 128,
-        4 => 128,
-        _ => 1,
+        ErrorReset => 64,
+        Ready | Run => 1,
+        ErrorWait | Started | Connecting => 128,
     }
 }
 
-pub(crate) fn counts_ticks(state: u32) -> bool
-    ensures { result ≡ counts_ticks (state_of state) }
+pub(crate) fn counts_ticks(state: LinkState) -> bool
+    ensures { result ≡ counts_ticks state }
 {
-    match state {
-        0 => true,
-        1 => true,
-        2 => false,
-        3 => true,
-        4 => true,
-        _ => false,
-    }
+    !matches!(state, Ready | Run)
 }
 
 fn is_enabled(words: &Words) -> bool
     ensures { Reads words.now (λ (l : Link). enabled_by l.controls l.stage.gotnull) result }
 {
-    if words::truth(words[DISABLED]) {
-        false
-    } else {
-        if words::truth(words[START]) {
-            true
-        } else {
-            if words::truth(words[AUTO]) {
-                words::truth(words[GOT_NULL])
-            } else {
-                false
-            }
-        }
-    }
+    !words::truth(words[DISABLED])
+        && (words::truth(words[START])
+            || words::truth(words[AUTO]) && words::truth(words[GOT_NULL]))
 }
 
 fn exchanged(words: &Words) -> bool
     ensures { Reads words.now (λ (l : Link). l.stage.gotnull && l.stage.nullsent) result }
 {
-    if words::truth(words[GOT_NULL]) {
-        words::truth(words[NULL_SENT])
-    } else {
-        false
-    }
+    words::truth(words[GOT_NULL]) && words::truth(words[NULL_SENT])
 }
 
 fn at_limit(words: &Words) -> bool
     ensures { Reads words.now (λ (l : Link). leb (limit_of l.stage.state) l.stage.timer) result }
 {
-    limit(words[STATE]) <= words[TIMER]
+    limit(fields::state_in(words)) <= words[TIMER]
 }
 
-fn look_up(table: &Table, state: u32, column: u32) -> u32
-    requires { (state < 6) × (column < 10) × SaysMoves table.now }
-    ensures { result ≡ state_number (table_at (state_of state) column) }
-{
-    let row = state as usize;
-    let at = column as usize;
-    table[row][at] as u32
-}
-
-fn column_holds(words: &Words, column: u32) -> bool
+fn column_holds(words: &Words, column: usize) -> bool
     ensures { Reads words.now (λ (l : Link). column_holds (conditions l) column) result }
 {
     match column {
@@ -119,44 +94,41 @@ fn column_holds(words: &Words, column: u32) -> bool
     }
 }
 
-// Beside what came, the first column that holds and whose cell is not the state itself.
-fn first_other(table: &Table, words: &Words) -> u32
-    requires { (word_at words.now STATE < 6) × SaysMoves table.now }
-    ensures { Reads words.now (λ (l : Link). state_number (first_from l.stage.state (conditions l) 6 4)) result }
+fn look_up(column: usize, state: LinkState) -> LinkState
+    requires { column < 10 }
+    ensures { result ≡ table_at state column }
 {
-    let state = words[STATE];
-    let mut column = 6;
-    while column < 10 {
-        let to = look_up(table, state, column);
-        if to != state {
-            if column_holds(words, column) {
-                return to;
-            }
+    NEXT[column][state as usize]
+}
+
+// Beside what came, the first column that holds and whose cell is not the state itself.
+#[tactic(auto, using(crate::proofs::TableLaws::first_done))]
+fn first_other(words: &Words) -> LinkState
+    ensures { Reads words.now (λ (l : Link). first_from l.stage.state (conditions l) 6 4) result }
+{
+    let state = fields::state_in(words);
+    for column in 6..10 {
+        let to = look_up(column, state);
+        if to != state && column_holds(words, column) {
+            return to;
         }
-        column = column + 1;
     }
     state
 }
 
-// The number of the state after an event's effect. The table is built at each use of the constant, so it is taken once and
-// lent.
-pub(crate) fn next_state(e: Event, words: &Words) -> u32
-    requires { word_at words.now STATE < 6 }
-    ensures { Reads words.now (λ (l : Link). state_number (next_state e l)) result }
+// The state after an event's effect.
+#[tactic(auto, using(crate::proofs::TableLaws::same_is_state, crate::proofs::TableLaws::event_moves, crate::proofs::TableLaws::event_stays))]
+pub(crate) fn next_state(e: Event, words: &Words) -> LinkState
+    ensures { Reads words.now (λ (l : Link). next_state e l) result }
 {
-    let table = NEXT;
-    let state = words[STATE];
-    let to = look_up(&table, state, event_number(e));
-    if to == state {
-        first_other(&table, words)
-    } else {
-        to
-    }
+    let state = fields::state_in(words);
+    let to = look_up(e as usize, state);
+    if to == state { first_other(words) } else { to }
 }
 
-pub(crate) fn enter(words: &mut Words, s: u32)
-    ensures { s < 6 → Writes words.old (λ (l : Link). entered l (state_of s)) words.new }
+pub(crate) fn enter(words: &mut Words, s: LinkState)
+    ensures { Writes words.old (λ (l : Link). entered l s) words.new }
 {
-    words[STATE] = s;
+    words[STATE] = s as u32;
     words[TIMER] = 0;
 }

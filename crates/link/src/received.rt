@@ -1,5 +1,7 @@
 // What a token, a fault or a tick does before the move (01, The link end, Credit, Time).
-ghost use Rattle.std.specs.Prelude.{◌≡◌, ◌||◌, not, length, ◌<◌};
+#![tactic(auto, unfolding(crate::specs::LinkWords::link_words, store::specs::StoreWords::store_of, crate::specs::Received::effect, crate::specs::Received::got_null, crate::specs::Received::fct_effect, crate::specs::Received::stored_link, crate::specs::Received::n_char_effect, crate::specs::Received::time_code_effect, crate::specs::Received::token_effect, crate::specs::Received::token_places, crate::specs::Received::counted, crate::specs::InPlace::heard_of, crate::specs::Ends::with_stage, crate::specs::Ends::with_rx, crate::specs::Ends::with_marks, crate::specs::Ends::mark_stored, crate::specs::Credit::with_given, crate::specs::Credit::with_held, crate::specs::Ends::with_credit))]
+
+ghost use Rattle.std.specs.Prelude.{◌≡◌, ◌||◌, false, not, length, ◌<◌};
 ghost use Rattle.vocabulary.specs.Choice.{pick};
 ghost use Rattle.words.specs.Words.{word_at};
 ghost use Rattle.store.specs.Changes.{put_places};
@@ -12,16 +14,10 @@ ghost use Rattle.link.specs.Received.{token_places, ignores_fault, fault_event, 
 ghost use Rattle.link.specs.LinkWords.{TIMER, link_words};
 ghost use Rattle.link.specs.InPlace.{Reads, Writes, WritesGood, SmallEnough, Good, heard_of, Hears};
 
-use crate::fields::{GOT_NULL, STATE, STORED, TIMER, Words};
-use crate::{Event, FaultKind, Heard, Held, LinkState, counters, fields, moves};
+use crate::fields::{GOT_NULL, RX, STORED, TIMER, Words};
+use crate::{Event, FaultKind, Heard, Held, LinkState, fields, moves};
 use time::Time;
 use vocabulary::Token;
-
-fn heard(event: Event, time: Time, tick: bool) -> Heard
-    ensures { result ≡ record { event = event; time = time; tick = tick } }
-{
-    Heard { event, time, tick }
-}
 
 fn got_null(words: &mut Words)
     ensures { Writes words.old got_null words.new }
@@ -32,28 +28,24 @@ fn got_null(words: &mut Words)
 fn takes_fct(words: &Words) -> bool
     ensures { Reads words.now (λ (l : Link). is_state l.stage.state LinkState.Connecting || is_state l.stage.state LinkState.Run) result }
 {
-    if fields::is_in(words, LinkState::Connecting) {
-        true
-    } else {
-        fields::is_in(words, LinkState::Run)
-    }
+    matches!(
+        fields::state_in(words),
+        LinkState::Connecting | LinkState::Run
+    )
 }
 
-fn got_fct(words: &mut Words, time: Time) -> Heard
-    ensures { (l : Link) → words.old ≡ link_words l → Good l →
-        (result ≡ heard_of (fct_effect l time)) × (words.new ≡ link_words (fct_effect l time).link) }
+fn got_fct(words: &mut Words) -> Event
+    ensures { (l : Link) (time : Time) → words.old ≡ link_words l → Good l →
+        (record { event = result; time = time; tick = false } ≡ heard_of (fct_effect l time)) × (words.new ≡ link_words (fct_effect l time).link) }
 {
     if takes_fct(words) {
         let held = fields::held_in(words);
-        if counters::passes_56(held) {
-            heard(Event::CreditError, time, false)
-        } else {
-            fields::set_held(words, Held(held.0 + 8));
-            heard(Event::GotFct, time, false)
+        if held.passes_56() {
+            return Event::CreditError;
         }
-    } else {
-        heard(Event::GotFct, time, false)
+        fields::set_held(words, Held(held.0 + 8));
     }
+    Event::GotFct
 }
 
 fn store_n_char(words: &mut Words, rx: &mut [u16], n: u16)
@@ -61,36 +53,43 @@ fn store_n_char(words: &mut Words, rx: &mut [u16], n: u16)
         × Reads words.old (λ (l : Link). put_places rx.old l.rx n) rx.new }
 {
     let given = fields::given_in(words);
-    fields::set_given(words, counters::one_given_less(given));
-    let store = fields::rx_in(words);
-    fields::set_rx(words, store::put(store, rx, n));
+    fields::set_given(words, given.one_less());
+    fields::put_at(words, RX, rx, n);
     fields::set_truth(words, STORED, !vocabulary::is_end(n));
 }
 
-fn got_n_char(words: &mut Words, rx: &mut [u16], time: Time, n: u16) -> Heard
-    ensures { Hears words.old rx.old (λ (l : Link). n_char_effect (length rx.old) l time n)
-        (λ (l : Link). pick (stores_n_char l) (put_places rx.old l.rx n) rx.old) result words.new rx.new }
+fn got_n_char(words: &mut Words, rx: &mut [u16], n: u16) -> Event
+    ensures { SmallEnough rx.old → (l : Link) (time : Time) → words.old ≡ link_words l → Good l →
+        (record { event = result; time = time; tick = false } ≡ heard_of (n_char_effect (length rx.old) l time n))
+        × (words.new ≡ link_words (n_char_effect (length rx.old) l time n).link)
+        × (rx.new ≡ pick (stores_n_char l) (put_places rx.old l.rx n) rx.old) }
 {
     if fields::is_in(words, LinkState::Run) {
-        if counters::none_given(fields::given_in(words)) {
-            heard(Event::CreditError, time, false)
-        } else {
-            store_n_char(words, rx, n);
-            heard(Event::GotNChar, time, false)
+        if fields::given_in(words).0 == 0 {
+            return Event::CreditError;
         }
-    } else {
-        heard(Event::GotNChar, time, false)
+        store_n_char(words, rx, n);
     }
+    Event::GotNChar
 }
 
 fn got_time_code(words: &Words, time: Time, v: u8) -> Heard
     ensures { Reads words.now (λ (l : Link). heard_of (time_code_effect l time v)) result }
 {
+    let event = Event::GotTimeCode;
     if fields::is_in(words, LinkState::Run) {
-        let next = time::after(time, v);
-        heard(Event::GotTimeCode, next, next.ticked)
+        let next = time.after(v);
+        Heard {
+            event,
+            time: next,
+            tick: next.ticked,
+        }
     } else {
-        heard(Event::GotTimeCode, time, false)
+        Heard {
+            event,
+            time,
+            tick: false,
+        }
     }
 }
 
@@ -104,11 +103,7 @@ fn ignores_all(words: &Words) -> bool
 fn ignores_most(words: &Words) -> bool
     ensures { Reads words.now (λ (l : Link). ignores_all l || not l.stage.gotnull) result }
 {
-    if ignores_all(words) {
-        true
-    } else {
-        !words::truth(words[GOT_NULL])
-    }
+    ignores_all(words) || !words::truth(words[GOT_NULL])
 }
 
 fn ignores_token(words: &Words, t: Token) -> bool
@@ -116,24 +111,28 @@ fn ignores_token(words: &Words, t: Token) -> bool
 {
     match t {
         Token::Null => ignores_all(words),
-        Token::Fct => ignores_most(words),
-        Token::NChar(_) => ignores_most(words),
-        Token::TimeCode(_) => ignores_most(words),
+        Token::Fct | Token::NChar(_) | Token::TimeCode(_) => ignores_most(words),
     }
 }
 
+#[tactic(auto, unfolding(crate::specs::Received::effect, crate::specs::Received::time_code_effect, crate::specs::InPlace::heard_of))]
 fn hear(words: &mut Words, rx: &mut [u16], time: Time, t: Token) -> Heard
     ensures { Hears words.old rx.old (λ (l : Link). heard_effect (length rx.old) l time t)
         (λ (l : Link). heard_places rx.old l t) result words.new rx.new }
 {
-    match t {
+    let event = match t {
         Token::Null => {
             got_null(words);
-            heard(Event::Quiet, time, false)
+            Event::Quiet
         }
-        Token::Fct => got_fct(words, time),
-        Token::NChar(n) => got_n_char(words, rx, time, n),
-        Token::TimeCode(v) => got_time_code(words, time, v),
+        Token::Fct => got_fct(words),
+        Token::NChar(n) => got_n_char(words, rx, n),
+        Token::TimeCode(v) => return got_time_code(words, time, v),
+    };
+    Heard {
+        event,
+        time,
+        tick: false,
     }
 }
 
@@ -143,7 +142,11 @@ pub(crate) fn token(words: &mut Words, rx: &mut [u16], time: Time, t: Token) -> 
         (λ (l : Link). token_places rx.old l t) result words.new rx.new }
 {
     if ignores_token(words, t) {
-        heard(Event::Quiet, time, false)
+        Heard {
+            event: Event::Quiet,
+            time,
+            tick: false,
+        }
     } else {
         hear(words, rx, time, t)
     }
@@ -153,8 +156,7 @@ fn ignores_fault(words: &Words, f: FaultKind) -> bool
     ensures { Reads words.now (λ (l : Link). ignores_fault l f) result }
 {
     match f {
-        FaultKind::ParityFault => ignores_most(words),
-        FaultKind::EscapeFault => ignores_most(words),
+        FaultKind::ParityFault | FaultKind::EscapeFault => ignores_most(words),
         FaultKind::DisconnectFault => ignores_all(words),
     }
 }
@@ -174,7 +176,7 @@ pub(crate) fn count(words: &mut Words)
     requires { word_at words.old TIMER < 255 }
     ensures { Writes words.old counted words.new }
 {
-    if moves::counts_ticks(words[STATE]) {
-        words[TIMER] = words[TIMER] + 1;
+    if moves::counts_ticks(fields::state_in(words)) {
+        words[TIMER] += 1;
     }
 }

@@ -1,6 +1,8 @@
 // Going to ErrorReset by a move, settling after an event, and reset (01, Going to ErrorReset by a move; Reset).
-ghost use Rattle.std.specs.Prelude.{◌≡◌, ◌<◌, length};
-ghost use Rattle.words.specs.Words.{word_at, narrow};
+#![tactic(auto, unfolding(crate::specs::LinkWords::link_words, store::specs::StoreWords::store_of, store::specs::Changes::fresh_store, crate::specs::Recovery::cleared, crate::specs::Recovery::closed_link, crate::specs::Recovery::closed_places, crate::specs::Recovery::discarded_link, crate::specs::Recovery::rest_discarded, crate::specs::Recovery::goes_down, crate::specs::Recovery::moves_to, crate::specs::Recovery::settles, crate::specs::Reset::emptied, crate::specs::Reset::emptied_places, crate::specs::Reset::resets, crate::specs::Ends::settled_at, crate::specs::Ends::no_credit, crate::specs::Ends::with_rx, crate::specs::Ends::with_tx, crate::specs::Ends::with_marks, crate::specs::Ends::mark_stored, crate::specs::Ends::mark_sent, crate::specs::Ends::mark_discarding))]
+
+ghost use Rattle.std.specs.Prelude.{◌≡◌, false, length};
+ghost use Rattle.words.specs.Words.{narrow};
 ghost use Rattle.link.specs.Records.{Link};
 ghost use Rattle.vocabulary.specs.Choice.{pick};
 ghost use Rattle.vocabulary.specs.NChars.{EEP};
@@ -8,15 +10,16 @@ ghost use Rattle.store.specs.Changes.{fresh_store, put_store};
 ghost use Rattle.link.specs.Ends.{with_rx};
 ghost use Rattle.link.specs.Recovery.{cleared, closed_link, closed_places, rest_discarded, goes_down, moves_to, settles};
 ghost use Rattle.link.specs.Reset.{emptied_places, resets};
-ghost use Rattle.link.specs.Table.{state_of};
-ghost use Rattle.link.specs.LinkWords.{STATE};
+ghost use Rattle.link.specs.Moves.{is_state};
+ghost use Rattle.link.specs.LinkWords.{link_words};
 ghost use Rattle.link.specs.InPlace.{Reads, Writes, SmallEnough, Settles};
 
 use crate::fields::{
-    CODE, DISCARDING, GIVEN_OUT, GOT_NULL, HELD, NULL_SENT, OFFERED, PUT, SENT, STATE, STORED,
-    TAKEN, TIMER, Words,
+    CODE, DISCARDING, GIVEN_OUT, GOT_NULL, HELD, NULL_SENT, OFFERED, PUT, RX, SENT, STATE, STORED,
+    TAKEN, TIMER, TX, Words,
 };
-use crate::{Event, fields, moves};
+use crate::{Event, LinkState, fields, moves};
+use store::Store;
 
 fn clear(words: &mut Words)
     ensures { Writes words.old cleared words.new }
@@ -37,8 +40,7 @@ fn close(words: &mut Words, rx: &mut [u16])
         × Reads words.old (closed_places rx.old) rx.new }
 {
     if words::truth(words[STORED]) {
-        let store = fields::rx_in(words);
-        fields::set_rx(words, store::put(store, rx, vocabulary::EEP));
+        fields::put_at(words, RX, rx, vocabulary::EEP);
         words[STORED] = 0;
     }
 }
@@ -49,9 +51,9 @@ fn discard_rest(words: &mut Words, tx: &[u16]) -> u32
         × Reads words.old (λ (l : Link). narrow (rest_discarded tx.now l).discarded) result }
 {
     if words::truth(words[SENT]) {
-        let store = fields::tx_in(words);
-        let found = store::find_end(store, tx);
-        fields::set_tx(words, store::drop_found(store, tx, found));
+        let store = fields::store_at(words, TX);
+        let found = store.find_end(tx);
+        fields::set_store(words, TX, store.drop_found(tx, found));
         words[SENT] = 0;
         if !found.ended {
             words[DISCARDING] = 1;
@@ -62,6 +64,7 @@ fn discard_rest(words: &mut Words, tx: &[u16]) -> u32
     }
 }
 
+#[tactic(auto, unfolding(crate::specs::Recovery::goes_down))]
 fn go_down(words: &mut Words, rx: &mut [u16], tx: &[u16]) -> u32
     ensures { Settles words.old rx.old tx.now goes_down words.new result rx.new }
 {
@@ -71,25 +74,24 @@ fn go_down(words: &mut Words, rx: &mut [u16], tx: &[u16]) -> u32
 }
 
 // The move to another state: rare and large, so apart from `settle`, which is small and in every call.
-fn move_to(next: u32, words: &mut Words, rx: &mut [u16], tx: &[u16]) -> u32
-    ensures { next < 6 → (next ≡ word_at words.old STATE → ⊥) →
-        Settles words.old rx.old tx.now (moves_to (state_of next)) words.new result rx.new }
+fn move_to(next: LinkState, words: &mut Words, rx: &mut [u16], tx: &[u16]) -> u32
+    ensures { (l : Link) → words.old ≡ link_words l → is_state next l.stage.state ≡ false →
+        Settles words.old rx.old tx.now (moves_to next) words.new result rx.new }
 {
-    if next == 0 {
-        go_down(words, rx, tx)
-    } else {
-        moves::enter(words, next);
-        0
+    if next == LinkState::ErrorReset {
+        return go_down(words, rx, tx);
     }
+    moves::enter(words, next);
+    0
 }
 
 // After an event's effect: the one move that fits, if any.
+#[tactic(auto, using(crate::proofs::TableLaws::same_is_state), unfolding(crate::specs::Recovery::settles, crate::specs::Recovery::moves_to, crate::specs::Ends::settled_at))]
 pub(crate) fn settle(e: Event, words: &mut Words, rx: &mut [u16], tx: &[u16]) -> u32
-    requires { word_at words.old STATE < 6 }
     ensures { Settles words.old rx.old tx.now (settles e) words.new result rx.new }
 {
     let next = moves::next_state(e, words);
-    if next == words[STATE] {
+    if next == fields::state_in(words) {
         0
     } else {
         move_to(next, words, rx, tx)
@@ -101,10 +103,9 @@ fn empty_receive(words: &mut Words, rx: &mut [u16])
     ensures { (SmallEnough rx.old → Writes words.old (λ (l : Link). with_rx l (pick l.marks.taken (put_store (length rx.old) fresh_store EEP) fresh_store)) words.new)
         × Reads words.old (emptied_places rx.old) rx.new }
 {
+    fields::set_store(words, RX, Store::fresh());
     if words::truth(words[TAKEN]) {
-        fields::set_rx(words, store::put(store::fresh(), rx, vocabulary::EEP));
-    } else {
-        fields::set_rx(words, store::fresh());
+        fields::put_at(words, RX, rx, vocabulary::EEP);
     }
 }
 
@@ -114,10 +115,10 @@ pub(crate) fn reset_all(words: &mut Words, rx: &mut [u16]) -> u32
         × Reads words.old (λ (l : Link). narrow (resets rx.old l).moved.discarded) result
         × Reads words.old (λ (l : Link). (resets rx.old l).rx) rx.new }
 {
-    let transmit = fields::tx_in(words);
+    let transmit = fields::store_at(words, TX);
     clear(words);
     empty_receive(words, rx);
-    fields::set_tx(words, store::fresh());
+    fields::set_store(words, TX, Store::fresh());
     words[STORED] = 0;
     words[SENT] = 0;
     words[DISCARDING] = words[PUT];

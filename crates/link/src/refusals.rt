@@ -1,5 +1,7 @@
 // What the calls test (01, The ten refusals). Each test is small, and every call names those that it makes: a function that
 // gathered them would be called and not inlined.
+#![tactic(auto, unfolding(crate::specs::LinkWords::link_words, store::specs::StoreWords::store_of))]
+
 ghost use Rattle.std.specs.Prelude.{◌≡◌, ◌||◌, ◌&&◌, not, eqb, ltb, length};
 ghost use Rattle.words.specs.Words.{word_at, truth, truth_word};
 ghost use Rattle.store.specs.Ring.{bad_store, empty, full};
@@ -8,16 +10,16 @@ ghost use Rattle.link.specs.Records.{Link};
 ghost use Rattle.link.specs.Moves.{state_number};
 ghost use Rattle.link.specs.Table.{state_of};
 ghost use Rattle.link.specs.Send.{offer_number, offer_value};
-ghost use Rattle.link.specs.Refusals.{bad_record, bad_rx_size, bad_tx_size, lacks_room, bad_receive};
+ghost use Rattle.link.specs.Refusals.{bad_held, bad_given, bad_record, bad_rx_size, bad_tx_size, lacks_room, bad_receive};
 ghost use Rattle.link.specs.LinkWords.{STATE, is_link, time_of, is_time, offer_of};
 ghost use Rattle.link.specs.LinkCalls.{no_fault};
 ghost use Rattle.link.specs.InPlace.{Reads};
 
 use crate::fields::{
-    AUTO, CODE, DISABLED, DISCARDING, GIVEN_OUT, GOT_NULL, HELD, NULL_SENT, OFFERED, PUT, SENT,
-    START, STATE, STORED, TAKEN, TIMER, Words,
+    AUTO, CODE, DISABLED, DISCARDING, GIVEN_OUT, GOT_NULL, HELD, NULL_SENT, OFFERED, PUT, RX, SENT,
+    START, STATE, STORED, TAKEN, TIMER, TX, Words,
 };
-use crate::{fields, moves};
+use crate::{LinkState, fields, moves};
 
 fn no_state(word: u32) -> bool
     ensures { result ≡ not (eqb word (state_number (state_of word))) }
@@ -43,6 +45,7 @@ fn no_offer(offered: u32, code: u32) -> bool
 }
 
 // Whether the words are no end's: a number that no state, truth or waiting Time-Code has.
+#[tactic(auto, using(crate::proofs::LinkLaws::no_link))]
 pub(crate) fn no_link(words: &[u32]) -> bool
     requires { length words.now ≡ 20 }
     ensures { result ≡ not (is_link words.now) }
@@ -55,43 +58,26 @@ pub(crate) fn no_link(words: &[u32]) -> bool
     no_state(words[STATE]) | (no_truth(words[GOT_NULL]) | (no_truth(words[NULL_SENT]) | controls))
 }
 
-fn bad_held(state: u32, held: u32) -> bool
-    ensures { result ≡ (ltb 56 held || not (eqb state 5) && not (eqb held 0)) }
+fn bad_held(state: LinkState, held: u32) -> bool
+    ensures { result ≡ bad_held state held }
 {
-    (56 < held) | ((state != 5) & (held != 0))
+    (56 < held) | (!matches!(state, LinkState::Run) & (held != 0))
 }
 
-fn bad_given(state: u32, given: u32) -> bool
-    ensures { result ≡ (ltb 56 given || not (eqb state 4 || eqb state 5) && not (eqb given 0)) }
+fn bad_given(state: LinkState, given: u32) -> bool
+    ensures { result ≡ bad_given state given }
 {
-    (56 < given) | (!((state == 4) | (state == 5)) & (given != 0))
+    (56 < given) | (!matches!(state, LinkState::Connecting | LinkState::Run) & (given != 0))
 }
 
-// The numbers of a record in the state with this number, one by one.
-fn bad_in(words: &Words, state: u32) -> bool
-    ensures { word_at words.now STATE ≡ state → Reads words.now bad_record result }
-{
-    if bad_held(state, words[HELD]) {
-        true
-    } else {
-        if bad_given(state, words[GIVEN_OUT]) {
-            true
-        } else {
-            moves::limit(state) <= words[TIMER]
-        }
-    }
-}
-
-// The states with credit have a branch of their own, which is compiled to their limits.
+// The numbers of a record, one by one.
 pub(crate) fn bad_record(words: &Words) -> bool
     ensures { Reads words.now bad_record result }
 {
-    let state = words[STATE];
-    match state {
-        5 => bad_in(words, 5),
-        4 => bad_in(words, 4),
-        _ => bad_in(words, state),
-    }
+    let state = fields::state_in(words);
+    bad_held(state, words[HELD])
+        || bad_given(state, words[GIVEN_OUT])
+        || moves::limit(state) <= words[TIMER]
 }
 
 pub(crate) fn bad_rx_size(size: usize) -> bool
@@ -117,37 +103,30 @@ fn lacks_room(words: &Words, size: usize) -> bool
     ensures { Reads words.now (lacks_room size) result }
 {
     let given = words[GIVEN_OUT] as usize;
-    let free = store::free_places(fields::rx_in(words), size);
+    let free = fields::store_at(words, RX).free_places(size);
     ((given != 0) | words::truth(words[STORED])) & (free <= given)
 }
 
 pub(crate) fn bad_receive(words: &Words, size: usize) -> bool
     ensures { Reads words.now (bad_receive size) result }
 {
-    if store::bad(fields::rx_in(words), size) {
-        true
-    } else {
-        lacks_room(words, size)
-    }
+    fields::store_at(words, RX).is_bad(size) || lacks_room(words, size)
 }
 
 pub(crate) fn bad_transmit(words: &Words, size: usize) -> bool
     ensures { Reads words.now (λ (l : Link). bad_store size l.tx) result }
 {
-    store::bad(fields::tx_in(words), size)
+    fields::store_at(words, TX).is_bad(size)
 }
 
 pub(crate) fn bad_stores(words: &Words, rx: usize, tx: usize) -> bool
     ensures { Reads words.now (λ (l : Link). bad_receive rx l || bad_store tx l.tx) result }
 {
-    if bad_receive(words, rx) {
-        true
-    } else {
-        bad_transmit(words, tx)
-    }
+    bad_receive(words, rx) || bad_transmit(words, tx)
 }
 
 // A time record's words: a count up to 63, and a truth.
+#[tactic(auto, using(crate::proofs::LinkLaws::no_time), unfolding(crate::specs::LinkWords::time_of))]
 pub(crate) fn bad_time(time: &[u32]) -> bool
     requires { length time.now ≡ 2 }
     ensures { result ≡ (not (is_time time.now) || bad_time (time_of time.now)) }
@@ -158,13 +137,13 @@ pub(crate) fn bad_time(time: &[u32]) -> bool
 pub(crate) fn no_place(words: &Words, tx: usize) -> bool
     ensures { Reads words.now (λ (l : Link). not l.marks.discarding && full tx l.tx) result }
 {
-    !words::truth(words[DISCARDING]) & store::is_full(fields::tx_in(words), tx)
+    !words::truth(words[DISCARDING]) & fields::store_at(words, TX).is_full(tx)
 }
 
 pub(crate) fn is_empty(words: &Words) -> bool
     ensures { Reads words.now (λ (l : Link). empty l.rx) result }
 {
-    store::is_empty(fields::rx_in(words))
+    fields::store_at(words, RX).is_empty()
 }
 
 pub(crate) fn no_fault(kind: u32) -> bool

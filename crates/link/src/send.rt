@@ -1,4 +1,6 @@
 // What goes out (01, Send).
+#![tactic(auto, unfolding(crate::specs::LinkWords::link_words, store::specs::StoreWords::store_of, crate::specs::Send::null_sent, crate::specs::Send::n_char_sent, crate::specs::Ends::with_stage, crate::specs::Ends::with_marks, crate::specs::Ends::mark_sent, crate::specs::Ends::with_offer, crate::specs::Ends::with_tx, crate::specs::Credit::with_given, crate::specs::Credit::with_held, crate::specs::Ends::with_credit))]
+
 ghost use Rattle.std.specs.Prelude.{◌≡◌, ◌+◌, None};
 ghost use Rattle.vocabulary.specs.Choice.{pick};
 ghost use Rattle.vocabulary.specs.declared.Token.{Token};
@@ -9,54 +11,43 @@ ghost use Rattle.link.specs.Send.{sent_kind, sent_value, grants, has_n_char, cho
 ghost use Rattle.link.specs.Send.{choice, null_sent, n_char_sent, booked_token, booked};
 ghost use Rattle.link.specs.InPlace.{ReadsGood, Writes, WritesGood, SmallEnough};
 
-use crate::fields::{CODE, NULL_SENT, OFFERED, SENT, Words};
-use crate::{LinkState, counters, fields};
+use crate::fields::{CODE, NULL_SENT, OFFERED, RX, SENT, TX, Words};
+use crate::{LinkState, fields};
 use vocabulary::Token;
 
 // What is sent, by number: 0 nothing, else the token's.
 pub(crate) fn sent_kind(s: Option<Token>) -> u8
     ensures { result ≡ sent_kind s }
 {
-    match s {
-        None => 0,
-        Some(t) => vocabulary::kind(t),
-    }
+    s.map_or(0, vocabulary::kind)
 }
 
 pub(crate) fn sent_value(s: Option<Token>) -> u16
     ensures { result ≡ sent_value s }
 {
-    match s {
-        None => 0,
-        Some(t) => vocabulary::value(t),
-    }
+    s.map_or(0, vocabulary::value)
 }
 
 fn grants_fct(words: &Words, size: usize) -> bool
     ensures { ReadsGood words.now (grants size) result }
 {
-    let store = fields::rx_in(words);
-    counters::may_grant(fields::given_in(words), store::free_places(store, size))
+    let free = fields::store_at(words, RX).free_places(size);
+    fields::given_in(words).may_grant(free)
 }
 
 fn has_n_char(words: &Words) -> bool
     ensures { ReadsGood words.now has_n_char result }
 {
-    if counters::none_held(fields::held_in(words)) {
-        false
-    } else {
-        !store::is_empty(fields::tx_in(words))
-    }
+    fields::held_in(words).0 != 0 && !fields::store_at(words, TX).is_empty()
 }
 
 fn choose_in_run(words: &Words, size: usize, tx: &[u16]) -> Token
     ensures { ReadsGood words.now (choice_in_run size tx.now) result }
 {
     if grants_fct(words, size) {
-        return Token::Fct;
-    }
-    if has_n_char(words) {
-        Token::NChar(store::look(fields::tx_in(words), tx))
+        Token::Fct
+    } else if has_n_char(words) {
+        Token::NChar(fields::store_at(words, TX).look(tx))
     } else {
         Token::Null
     }
@@ -81,11 +72,8 @@ fn fct_or_null(may: bool) -> Token
 pub(crate) fn choose(words: &Words, size: usize, tx: &[u16]) -> Option<Token>
     ensures { ReadsGood words.now (choice size tx.now) result }
 {
-    let state = fields::state_in(words);
-    match state {
-        LinkState::ErrorReset => None,
-        LinkState::ErrorWait => None,
-        LinkState::Ready => None,
+    match fields::state_in(words) {
+        LinkState::ErrorReset | LinkState::ErrorWait | LinkState::Ready => None,
         LinkState::Started => Some(Token::Null),
         LinkState::Connecting => Some(fct_or_null(grants_fct(words, size))),
         LinkState::Run => Some(choose_with(words, size, tx)),
@@ -102,16 +90,15 @@ fn fct_sent(words: &mut Words)
     ensures { WritesGood words.old (λ (l : Link). with_given l (l.credit.given.0 + 8)) words.new }
 {
     let given = fields::given_in(words);
-    fields::set_given(words, counters::eight_given_more(given));
+    fields::set_given(words, given.eight_more());
 }
 
 fn n_char_sent(words: &mut Words, tx: &[u16], n: u16)
     ensures { SmallEnough tx.now → WritesGood words.old (λ (l : Link). n_char_sent tx.now l n) words.new }
 {
     let held = fields::held_in(words);
-    fields::set_held(words, counters::one_held_less(held));
-    let store = fields::tx_in(words);
-    fields::set_tx(words, store::drop_first(store, tx));
+    fields::set_held(words, held.one_less());
+    fields::drop_at(words, TX, tx);
     fields::set_truth(words, SENT, !vocabulary::is_end(n));
 }
 
@@ -137,8 +124,7 @@ fn book_token(words: &mut Words, tx: &[u16], t: Token)
 pub(crate) fn book(words: &mut Words, tx: &[u16], s: Option<Token>)
     ensures { SmallEnough tx.now → WritesGood words.old (λ (l : Link). booked tx.now l s) words.new }
 {
-    match s {
-        None => {}
-        Some(t) => book_token(words, tx, t),
+    if let Some(t) = s {
+        book_token(words, tx, t);
     }
 }

@@ -1,28 +1,15 @@
 // Link ends and the time record: each function is the call of `link` with its name. A refused call leaves the state's words,
 // the stores and the time record, and answers zeros in `out`.
-ghost use Rattle.std.specs.Prelude.{◌≡◌, [], ◌∷◌};
+ghost use Rattle.std.specs.Prelude.{◌≡◌};
 ghost use Rattle.time.specs.Time.{fresh_time};
 ghost use Rattle.link.specs.Ends.{fresh_link};
 ghost use Rattle.link.specs.LinkWords.{link_words, time_words};
 ghost use Rattle.link.specs.LinkCalls.{tick_left, reset_left, fault_left, controls_of, control_left, send_left};
 ghost use Rattle.link.specs.LinkCalls.{receive_left, put_left, take_left, offer_left};
 
+use crate::answers;
 use link::calls;
 use link::fields::{TimeWords, Words};
-
-// What most of them answer: how many of the host's N-Chars were discarded.
-fn discarded(count: u32) -> [u32; 1]
-    ensures { result ≡ count ∷ [] }
-{
-    [count]
-}
-
-// What a take answers: it discards nothing.
-fn taken(nchar: u16) -> [u32; 2]
-    ensures { result ≡ 0 ∷ nchar ∷ [] }
-{
-    [0, u32::from(nchar)]
-}
 
 // A link end as it is made: in ErrorReset, controls off, stores empty.
 pub fn neftolek_link_fresh(state: &mut Words)
@@ -42,7 +29,7 @@ pub fn neftolek_link_tick(state: &mut Words, rx: &mut [u16], tx: &[u16], out: &m
     ensures { record { refusal = result; state = state.new; places = rx.new; out = out.new }
         ≡ tick_left state.old rx.old tx.now }
 {
-    words::answer(calls::tick(state, rx, tx).map(discarded), out)
+    words::answer(calls::tick(state, rx, tx).map(answers::alone), out)
 }
 
 // To ErrorReset from any state, with both stores emptied.
@@ -50,7 +37,7 @@ pub fn neftolek_link_reset(state: &mut Words, rx: &mut [u16], tx: &[u16], out: &
     ensures { record { refusal = result; state = state.new; places = rx.new; out = out.new }
         ≡ reset_left state.old rx.old tx.now }
 {
-    words::answer(calls::reset(state, rx, tx).map(discarded), out)
+    words::answer(calls::reset(state, rx, tx).map(answers::alone), out)
 }
 
 // A fault by the number of the decoder's report: `neftolek_link_fault(state, rx, n, tx, m, 5, out)` is a parity error.
@@ -64,7 +51,7 @@ pub fn neftolek_link_fault(
     ensures { record { refusal = result; state = state.new; places = rx.new; out = out.new }
         ≡ fault_left state.old rx.old tx.now kind }
 {
-    words::answer(calls::fault(state, rx, tx, kind).map(discarded), out)
+    words::answer(calls::fault(state, rx, tx, kind).map(answers::alone), out)
 }
 
 // The three controls, all at once; any number but 0 is on.
@@ -81,7 +68,7 @@ pub fn neftolek_link_control(
         ≡ control_left state.old rx.old tx.now (controls_of disabled start auto) }
 {
     let answered = calls::control(state, rx, tx, disabled, start, auto);
-    words::answer(answered.map(discarded), out)
+    words::answer(answered.map(answers::alone), out)
 }
 
 // The token that is due: `out` gets the discarded, the token's number, 0 for none, and its value.
@@ -116,7 +103,7 @@ pub fn neftolek_link_put(state: &mut Words, tx: &mut [u16], nchar: u32, out: &mu
     ensures { record { refusal = result; state = state.new; places = tx.new; out = out.new }
         ≡ put_left state.old tx.old nchar }
 {
-    words::answer(calls::put(state, tx, nchar).map(discarded), out)
+    words::answer(calls::put(state, tx, nchar).map(answers::alone), out)
 }
 
 // The host takes an N-Char that was received: `out` gets the discarded, always 0, and the N-Char.
@@ -124,7 +111,7 @@ pub fn neftolek_link_take(state: &mut Words, rx: &[u16], out: &mut [u32; 2]) -> 
     ensures { record { refusal = result; state = state.new; out = out.new }
         ≡ take_left state.old rx.now }
 {
-    words::answer(calls::take(state, rx).map(taken), out)
+    words::answer(calls::take(state, rx).map(answers::taken), out)
 }
 
 // The host offers a Time-Code, which waits until the next send in Run: `out` gets the discarded, always 0.

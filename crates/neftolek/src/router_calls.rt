@@ -4,24 +4,11 @@ ghost use Rattle.std.specs.Prelude.{◌≡◌, [], ◌∷◌};
 ghost use Rattle.router_table.specs.Rows.{fresh_table};
 ghost use Rattle.router_ports.specs.Ports.{fresh_router};
 ghost use Rattle.router_ports.specs.RouterWords.{router_words};
-ghost use Rattle.router.specs.Records.{ran_words};
 ghost use Rattle.router.specs.RouterCalls.{put_left, take_left, run_left, row_refused, table_left, row_left};
 
-use router::Ran;
+use crate::answers;
 use router_ports::Words;
 use router_table::Table;
-
-fn taken(nchar: u16) -> [u32; 1]
-    ensures { result ≡ nchar ∷ [] }
-{
-    [u32::from(nchar)]
-}
-
-fn ran(ran: Ran) -> [u32; 3]
-    ensures { result ≡ ran_words ran }
-{
-    [ran.rounds, ran.moved, ran.errors]
-}
 
 pub fn neftolek_router_fresh(state: &mut Words)
     ensures { state.new ≡ router_words fresh_router }
@@ -40,7 +27,7 @@ pub fn neftolek_router_put(state: &mut Words, area: &mut [u16], port: u32, nchar
     ensures { record { refusal = result; state = state.new; area = area.new; out = [] }
         ≡ put_left state.old area.old port nchar }
 {
-    crate::number(router::put(state, area, port, nchar))
+    answers::number(router::put(state, area, port, nchar))
 }
 
 // The front N-Char of a port's output store, in `out`.
@@ -48,7 +35,7 @@ pub fn neftolek_router_take(state: &mut Words, area: &[u16], port: u32, out: &mu
     ensures { record { refusal = result; state = state.new; area = area.now; out = out.new }
         ≡ take_left state.old area.now port }
 {
-    words::answer(router::take(state, area, port).map(taken), out)
+    words::answer(router::take(state, area, port).map(answers::routed), out)
 }
 
 // Rounds, at most `limit`: `out` gets how many were run, the N-Chars moved and the address errors met.
@@ -62,14 +49,14 @@ pub fn neftolek_router_run(
     ensures { record { refusal = result; state = state.new; area = area.new; out = out.new }
         ≡ run_left state.old area.old table.now limit }
 {
-    words::answer(router::run(state, area, table, limit).map(ran), out)
+    words::answer(router::run(state, area, table, limit).map(answers::ran), out)
 }
 
 pub fn neftolek_router_write_row(state: &Words, table: &mut Table, row: u32, value: u32) -> u32
     ensures { (result ≡ row_refused state.now row)
         × (table.new ≡ table_left state.now table.old row value) }
 {
-    crate::number(router::write_row(state, table, row, value))
+    answers::number(router::write_row(state, table, row, value))
 }
 
 // A row's value, in `out`.
@@ -77,5 +64,5 @@ pub fn neftolek_router_read_row(state: &Words, table: &Table, row: u32, out: &mu
     ensures { (result ≡ (row_left state.now table.now row).refusal)
         × (out.new ≡ (row_left state.now table.now row).value ∷ []) }
 {
-    words::answer(router::read_row(state, table, row).map(crate::alone), out)
+    words::answer(router::read_row(state, table, row).map(answers::alone), out)
 }

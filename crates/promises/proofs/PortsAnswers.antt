@@ -4,16 +4,22 @@ use mathlib.Core.Path.{sym, ◌∙◌}
 use Rattle.promises.specs.OneAnswer.{OneResult, OnePlaces}
 use Rattle.router_ports.proofs.fresh.Kinds as fresh_kinds
 use Rattle.router_ports.proofs.fresh.Reads as fresh_reads
-use Rattle.router_ports.proofs.mode_number.Kinds as mode_number_kinds
-use Rattle.router_ports.proofs.mode_number.Reads as mode_number_reads
-use Rattle.router_ports.proofs.mode_wanted.Kinds as mode_wanted_kinds
-use Rattle.router_ports.proofs.mode_wanted.Reads as mode_wanted_reads
-use Rattle.router_ports.proofs.mode_output.Kinds as mode_output_kinds
-use Rattle.router_ports.proofs.mode_output.Reads as mode_output_reads
-use Rattle.router_ports.proofs.owner_number.Kinds as owner_number_kinds
-use Rattle.router_ports.proofs.owner_number.Reads as owner_number_reads
-use Rattle.router_ports.proofs.owner_input.Kinds as owner_input_kinds
-use Rattle.router_ports.proofs.owner_input.Reads as owner_input_reads
+use Rattle.router_ports.proofs.Mode.number.Kinds as mode_number_kinds
+use Rattle.router_ports.proofs.Mode.number.Reads as mode_number_reads
+use Rattle.router_ports.proofs.Mode.wanted.Kinds as mode_wanted_kinds
+use Rattle.router_ports.proofs.Mode.wanted.Reads as mode_wanted_reads
+use Rattle.router_ports.proofs.Mode.output.Kinds as mode_output_kinds
+use Rattle.router_ports.proofs.Mode.output.Reads as mode_output_reads
+use Rattle.router_ports.proofs.Wanted.wants.Kinds as wants_kinds
+use Rattle.router_ports.proofs.Wanted.wants.Reads as wants_reads
+use Rattle.router_ports.proofs.ArrayU323FromMode.from.Kinds as mode_words_kinds
+use Rattle.router_ports.proofs.ArrayU323FromMode.from.Reads as mode_words_reads
+use Rattle.router_ports.proofs.ModeFromArrayU323.from.Kinds as mode_of_kinds
+use Rattle.router_ports.proofs.ModeFromArrayU323.from.Reads as mode_of_reads
+use Rattle.router_ports.proofs.ArrayU323FromOutput.from.Kinds as output_words_kinds
+use Rattle.router_ports.proofs.ArrayU323FromOutput.from.Reads as output_words_reads
+use Rattle.router_ports.proofs.OutputFromArrayU323.from.Kinds as output_of_kinds
+use Rattle.router_ports.proofs.OutputFromArrayU323.from.Reads as output_of_reads
 use Rattle.router_ports.proofs.mode_at.Kinds as mode_at_kinds
 use Rattle.router_ports.proofs.mode_at.Reads as mode_at_reads
 use Rattle.router_ports.proofs.is_idle.Kinds as is_idle_kinds
@@ -66,11 +72,20 @@ mode_wanted κs a x y s t p q = p ∙ sym q
 pub mode_output : OneResult 0 mode_output_kinds.ps mode_output_kinds.r mode_output_reads.Post
 mode_output κs a x y s t p q = p ∙ sym q
 
-pub owner_number : OneResult 0 owner_number_kinds.ps owner_number_kinds.r owner_number_reads.Post
-owner_number κs a x y s t p q = p ∙ sym q
+pub wants : OneResult 0 wants_kinds.ps wants_kinds.r wants_reads.Post
+wants κs a x y s t p q = p ∙ sym q
 
-pub owner_input : OneResult 0 owner_input_kinds.ps owner_input_kinds.r owner_input_reads.Post
-owner_input κs a x y s t p q = p ∙ sym q
+pub mode_words : OneResult 0 mode_words_kinds.ps mode_words_kinds.r mode_words_reads.Post
+mode_words κs a x y s t p q = p ∙ sym q
+
+pub mode_of : OneResult 0 mode_of_kinds.ps mode_of_kinds.r mode_of_reads.Post
+mode_of κs a x y s t p q = p ∙ sym q
+
+pub output_words : OneResult 0 output_words_kinds.ps output_words_kinds.r output_words_reads.Post
+output_words κs a x y s t p q = p ∙ sym q
+
+pub output_of : OneResult 0 output_of_kinds.ps output_of_kinds.r output_of_reads.Post
+output_of κs a x y s t p q = p ∙ sym q
 
 pub mode_at : OneResult 1 mode_at_kinds.ps mode_at_kinds.r mode_at_reads.Post
 mode_at κs a x y s t p q = p ∙ sym q

@@ -7,15 +7,15 @@ use borrow.Fn.Kinds.{ParamKind, ResultKind, Out, Dens, res_t, ended_of}
 use Rattle.characters.proofs.encoder.encode as encode
 use Rattle.characters.proofs.decoder.bit as bit
 use Rattle.characters.proofs.decoder.tick as decoder_tick
-use Rattle.link.proofs.calls.tick as tick
-use Rattle.link.proofs.calls.fault as fault
-use Rattle.link.proofs.calls.control as control
-use Rattle.link.proofs.calls.reset as reset
-use Rattle.link.proofs.calls.send as send
-use Rattle.link.proofs.calls.receive as receive
-use Rattle.link.proofs.calls.put as put
-use Rattle.link.proofs.calls.take as take
-use Rattle.link.proofs.calls.offer as offer
+use Rattle.neftolek.proofs.link_calls.neftolek_link_tick as tick
+use Rattle.neftolek.proofs.link_calls.neftolek_link_fault as fault
+use Rattle.neftolek.proofs.link_calls.neftolek_link_control as control
+use Rattle.neftolek.proofs.link_calls.neftolek_link_reset as reset
+use Rattle.neftolek.proofs.link_calls.neftolek_link_send as send
+use Rattle.neftolek.proofs.link_calls.neftolek_link_receive as receive
+use Rattle.neftolek.proofs.link_calls.neftolek_link_put as put
+use Rattle.neftolek.proofs.link_calls.neftolek_link_take as take
+use Rattle.neftolek.proofs.link_calls.neftolek_link_offer as offer
 use Rattle.router.proofs.put as router_put
 use Rattle.router.proofs.take as router_take
 use Rattle.router.proofs.run as router_run
@@ -97,16 +97,16 @@ abbrev pub RouterPut : Promise
 RouterPut = promise 2 router_put.Kinds.ps router_put.Kinds.r router_put.Reads.Post
 
 abbrev pub RouterTake : Promise
-RouterTake = promise 3 router_take.Kinds.ps router_take.Kinds.r router_take.Reads.Post
+RouterTake = promise 2 router_take.Kinds.ps router_take.Kinds.r router_take.Reads.Post
 
 abbrev pub RouterRun : Promise
-RouterRun = promise 4 router_run.Kinds.ps router_run.Kinds.r router_run.Reads.Post
+RouterRun = promise 3 router_run.Kinds.ps router_run.Kinds.r router_run.Reads.Post
 
 abbrev pub RouterWrite : Promise
 RouterWrite = promise 2 router_write.Kinds.ps router_write.Kinds.r router_write.Reads.Post
 
 abbrev pub RouterRead : Promise
-RouterRead = promise 3 router_read.Kinds.ps router_read.Kinds.r router_read.Reads.Post
+RouterRead = promise 2 router_read.Kinds.ps router_read.Kinds.r router_read.Reads.Post
 
 abbrev pub RouterHeld : Promise
-RouterHeld = promise 2 router_held.Kinds.ps router_held.Kinds.r router_held.Reads.Post
+RouterHeld = promise 1 router_held.Kinds.ps router_held.Kinds.r router_held.Reads.Post

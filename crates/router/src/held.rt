@@ -13,7 +13,7 @@ pub const WORDS: usize = 11;
 // What a port's input does and how many N-Chars wait there; which input holds its output and how many wait there; which
 // inputs wait for it, and which have N-Chars that no round has moved, bit i for input i; and whether nothing is held
 // through it.
-#[derive(Clone, Copy)]
+#[derive(Clone, Copy, Debug, PartialEq, Eq)]
 pub struct Held {
     pub mode: Mode,
     pub unmoved: usize,
@@ -29,12 +29,12 @@ impl From<Held> for [u32; WORDS] {
 
     #[tactic(auto, unfolding(crate::specs::HeldCalls::held_words))]
     fn from(held: Held) -> [u32; WORDS] {
-        let wanted = router_ports::mode_wanted(held.mode);
+        let wanted = held.mode.wanted();
         [
-            u32::from(router_ports::mode_number(held.mode)),
+            u32::from(held.mode.number()),
             u32::from(wanted.ports),
             u32::from(wanted.high),
-            words::narrow(router_ports::mode_output(held.mode)),
+            words::narrow(held.mode.output()),
             words::narrow(held.unmoved),
             u32::from(held.owner.is_some()),
             words::narrow(held.owner.unwrap_or(0)),

@@ -3,7 +3,6 @@
 use Rattle.std.proofs.Common.{◌≡◌, ℕ, zero, suc, ◌+◌, None, List, replicate, refl, ap, ◌∙◌, arith}
 use Rattle.store.specs.Changes.{fresh_store}
 use Rattle.router_ports.specs.Ports.{fresh_router}
-use Rattle.router_ports.specs.declared.Output.{Output}
 use Rattle.router_ports.specs.RouterWords.{listed, router_words, with_output_in}
 
 -- behind `o` outputs

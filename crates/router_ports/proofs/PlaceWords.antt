@@ -1,28 +1,26 @@
--- What is kept of a port or store, read from its words alone; and words that stand in a row, written one by one.
+-- What is kept of a port or store, read from its words alone; and the words that a row is saved as.
 -- Assumes nothing.
 use Rattle.std.specs.Prelude.{Option, None, Some}
-use Prim.Native.Nat.{ℕ, suc, ◌+◌, ◌-◌, ◌*◌, ◌/◌, ◌%◌, ◌<◌}
+use Prim.Native.Nat.{ℕ, ◌+◌, ◌-◌, ◌*◌, ◌/◌, ◌%◌, ◌<◌}
 use mathlib.Core.Path.{◌≡◌, refl, ap, ◌∙◌}
-use mathlib.Core.List.{List, [], ◌∷◌}
-use native.Mathlib.Decide.{ℕ_discrete}
+use mathlib.Core.List.{List}
 use native.Mathlib.Omega.{arith}
-use lib.ListN.{length, set}
+use lib.ListN.{length}
 use lib.Seq.{sets}
-use lib.Dec.{eqb, ltb}
-use mathlib.Core.Bool.{Bool, true, false, ◌||◌}
+use lib.Dec.{ltb}
+use mathlib.Core.Bool.{Bool, true, false}
 use Rattle.vocabulary.specs.Choice.{pick}
 use Rattle.store.specs.declared.Store.{Store}
-use borrow.Author.Tests.{lt-ltb, le-ltb, ne_eqb}
+use borrow.Author.Tests.{lt-ltb, le-ltb}
 use Rattle.words.specs.Words.{word_at}
 use Rattle.store.specs.Changes.{fresh_store}
-use Rattle.router_ports.specs.Numbers.{is_idle, is_waiting}
 use Rattle.router_ports.specs.Ports.{idle, no_output, mode_at, output_at, store_at}
 use Rattle.router_ports.specs.declared.Mode.{Mode}
 use Rattle.router_ports.specs.declared.Mode.TheVariants.{Idle, Waiting, Routed, Spilling}
 use Rattle.store.specs.StoreWords.{store_words}
 use Rattle.router_ports.specs.Records.{Router}
 use Rattle.router_ports.specs.RouterWords.{mode_words, output_words, router_word, router_words, with_store_in}
-use Rattle.router_ports.specs.RouterWords.{wanted_of, mode_of, input_in, output_in, store_in, router_of}
+use Rattle.router_ports.specs.RouterWords.{input_in, output_in, store_in, router_of}
 use Rattle.router_ports.proofs.ListedLaws.{get_or_listed}
 
 zero_add : (i : ℕ) → 0 + i ≡ i
@@ -30,12 +28,6 @@ zero_add i = omega arith
 
 pub nothing_more : (i : ℕ) → i ≡ i + 0
 nothing_more i = omega arith
-
-add_one : (i : ℕ) → i + 1 ≡ suc i
-add_one i = omega arith
-
-add_two : (i : ℕ) → i + 2 ≡ suc (suc i)
-add_two i = omega arith
 
 module _ (words : List ℕ) where
   pub mode_in : (i : ℕ) → i < 11 → mode_at (router_of words) i ≡ (input_in words i).mode
@@ -49,21 +41,6 @@ module _ (words : List ℕ) where
   pub store_in_lem : (k : ℕ) → k < 22 → store_at (router_of words) k ≡ store_in words k
   unfolding router_of
   store_in_lem k h = rw (lt-ltb k 22 h, get_or_listed (store_in words) 0 22 k fresh_store h, zero_add k)
-
-  pub two : (at : ℕ) (row : List ℕ) → length row ≡ 2 →
-      set (set words at (word_at row 0)) (at + 1) (word_at row 1) ≡ sets words at row
-  two at [] e = absurd (omega (arith, e))
-  two at (a ∷ []) e = absurd (omega (arith, e))
-  two at (a ∷ b ∷ []) e = rw (add_one at)
-  two at (a ∷ b ∷ c ∷ cs) e = absurd (omega (arith, e))
-
-  pub three : (at : ℕ) (row : List ℕ) → length row ≡ 3 →
-      set (set (set words at (word_at row 0)) (at + 1) (word_at row 1)) (at + 2) (word_at row 2) ≡ sets words at row
-  three at [] e = absurd (omega (arith, e))
-  three at (a ∷ []) e = absurd (omega (arith, e))
-  three at (a ∷ b ∷ []) e = absurd (omega (arith, e))
-  three at (a ∷ b ∷ c ∷ []) e = rw (add_one at, add_two at)
-  three at (a ∷ b ∷ c ∷ d ∷ ds) e = absurd (omega (arith, e))
 
 pub mode_length : (m : Mode) → length (mode_words m) ≡ 3
 mode_length Idle = refl
@@ -119,37 +96,3 @@ module _ (r : Router) where
   pub saved_word : (k : ℕ) → k < 110 → word_at (router_words r) k ≡ router_word r k
   unfolding router_words
   saved_word k h = get_or_listed (router_word r) 0 110 k 0 h ∙ ap (router_word r) (zero_add k)
-
--- what a mode's number alone says
-
-module _ (n value high : ℕ) where
-  idle_number : is_idle (mode_of n value high) ≡ eqb n 0 || ltb 3 n
-  unfolding mode_of
-  idle_number = go (ℕ_discrete n 0) (ℕ_discrete n 1) (ℕ_discrete n 2) (ℕ_discrete n 3)
-    where
-      go : Dec (n ≡ 0) → Dec (n ≡ 1) → Dec (n ≡ 2) → Dec (n ≡ 3) → is_idle (mode_of n value high) ≡ eqb n 0 || ltb 3 n
-      go (yes e) d1 d2 d3 = rw e
-      go (no d0) (yes e) d2 d3 = rw e
-      go (no d0) (no d1) (yes e) d3 = rw e
-      go (no d0) (no d1) (no d2) (yes e) = rw e
-      go (no d0) (no d1) (no d2) (no d3) =
-          rw (ne_eqb n 1 d1, ne_eqb n 2 d2, ne_eqb n 3 d3, ne_eqb n 0 d0, lt-ltb 3 n (omega arith))
-
-  waiting_number : is_waiting (mode_of n value high) ≡ eqb n 1
-  unfolding mode_of
-  waiting_number = go (eqb n 1) (eqb n 2) (eqb n 3)
-    where
-      go : (a b c : Bool) → is_waiting (pick a (Waiting (wanted_of value high)) (pick b (Routed value) (pick c Spilling Idle))) ≡ a
-      go true b c = refl
-      go false true c = refl
-      go false false true = refl
-      go false false false = refl
-
-module _ (words : List ℕ) (i : ℕ) (h : i < 11) where
-  pub idle_in : is_idle (mode_at (router_of words) i) ≡ eqb (word_at words (3 * i)) 0 || ltb 3 (word_at words (3 * i))
-  unfolding input_in
-  idle_in = ap is_idle (mode_in words i h) ∙ idle_number _ (word_at words (3 * i + 1)) (word_at words (3 * i + 2))
-
-  pub waiting_in : is_waiting (mode_at (router_of words) i) ≡ eqb (word_at words (3 * i)) 1
-  unfolding input_in
-  waiting_in = ap is_waiting (mode_in words i h) ∙ waiting_number _ (word_at words (3 * i + 1)) (word_at words (3 * i + 2))

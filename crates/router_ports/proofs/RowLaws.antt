@@ -1,6 +1,6 @@
 -- A row of words: read from where it stands, and written in place of what stands there.
 -- Assumes nothing.
-use Rattle.std.proofs.Common.{◌≡◌, ℕ, ◌+◌, ◌-◌, ◌*◌, ◌≤◌, ◌<◌, Bool, true, false, List, ◌++◌, Option, Some, None, length, take, drop, ltb, refl, append_assoc, sym, ap, ◌∙◌, arith}
+use Rattle.std.proofs.Common.{◌≡◌, ℕ, ◌+◌, ◌-◌, ◌*◌, ◌≤◌, ◌<◌, Bool, true, false, List, ◌++◌, Some, None, length, take, drop, ltb, refl, append_assoc, sym, ap, ◌∙◌, arith}
 use Rattle.std.proofs.lemmas.List.{drop-drop, get_or-take, get_or-drop}
 use Rattle.std.proofs.lemmas.List.Edits.{sets, sets-eq}
 use borrow.Author.Tests.{ltb-true, ltb-false}
@@ -8,7 +8,7 @@ use Rattle.vocabulary.specs.Choice.{pick}
 use Rattle.words.specs.Words.{word_at}
 use Rattle.store.specs.StoreWords.{store_of}
 use Rattle.router_ports.specs.Ports.{mode_at, output_at, store_at}
-use Rattle.router_ports.specs.RouterWords.{row_in, mode_of, owner_of, input_in, output_in, store_in, router_of}
+use Rattle.router_ports.specs.RouterWords.{row_in, mode_of, owner_of, input_in, output_in, router_of}
 use Rattle.router_ports.proofs.PlaceWords.{mode_in, output_in_lem, store_in_lem}
 
 pub row_written : (words : List ℕ) (at n : ℕ) (row : List ℕ) → length row ≡ n → at + n ≤ length words →

@@ -14,7 +14,7 @@ use lib.Seq.{ext_get_or}
 use borrow.Author.Tests.{eq-eqb, ne_eqb, eqb-true, lt-ltb, le-ltb}
 use Rattle.vocabulary.specs.Choice.{pick}
 use Rattle.words.specs.Words.{word_at, same, truth, truth_word, narrow}
-use Rattle.words.proofs.SameLaws.{same_is, same_itself, same_lengths}
+use Rattle.words.proofs.SameLaws.{same_is, same_itself}
 use Rattle.store.proofs.OrLaws.{or_left, or_right}
 use Rattle.store.specs.StoreWords.{store_words, store_of}
 use Rattle.store.specs.declared.Store.{Store}
@@ -161,36 +161,6 @@ and_left false b e = e
 and_right : (a b : Bool) → a && b ≡ true → b ≡ true
 and_right true b e = e
 and_right false b e = absurd (false≢true e)
-
--- an idle input and a free output are all zeros
-zeros_port : (n value high m input last : ℕ) (held routed : Bool) →
-    (((eqb n 0 && eqb value 0) && eqb high 0) && eqb m 0) && eqb input 0 ≡ true →
-    bad_mode n value high held || bad_owner m input last routed ≡ ltb 10 last
-zeros_port n value high m input last held routed all =
-    let four = and_left (((eqb n 0 && eqb value 0) && eqb high 0) && eqb m 0) (eqb input 0) all in
-    let three = and_left ((eqb n 0 && eqb value 0) && eqb high 0) (eqb m 0) four in
-    let two = and_left (eqb n 0 && eqb value 0) (eqb high 0) three in
-    rw (
-      and_left (eqb n 0) (eqb value 0) two,
-      and_right (eqb n 0) (eqb value 0) two,
-      and_right (eqb n 0 && eqb value 0) (eqb high 0) three,
-      and_right ((eqb n 0 && eqb value 0) && eqb high 0) (eqb m 0) four,
-      and_right (((eqb n 0 && eqb value 0) && eqb high 0) && eqb m 0) (eqb input 0) all,
-    ) (go (ltb 10 last))
-  where
-    go : (b : Bool) → pick b true false ≡ b
-    go true = refl
-    go false = refl
-
-pub zeros_in : (words : List ℕ) (p : ℕ) →
-    (((eqb (word_at words (3 * p)) 0 && eqb (word_at words (3 * p + 1)) 0) && eqb (word_at words (3 * p + 2)) 0)
-    && eqb (word_at words (3 * p + 33)) 0) && eqb (word_at words (3 * p + 33 + 1)) 0 ≡ true →
-    bad_port_in words p ≡ ltb 10 (word_at words (3 * p + 33 + 2))
-unfolding bad_input_in bad_output_in
-zeros_in words p all =
-    zeros_port (word_at words (3 * p)) (word_at words (3 * p + 1)) (word_at words (3 * p + 2)) (word_at words (3 * p + 33))
-    (word_at words (3 * p + 33 + 1)) (word_at words (3 * p + 33 + 2)) (held_by words (word_at words (3 * p + 1)) p)
-    (routed_to words (word_at words (3 * p + 33 + 1)) p) all
 
 not_true : (a : Bool) → not a ≡ false → a ≡ true
 not_true true e = refl

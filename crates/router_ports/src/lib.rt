@@ -159,11 +159,11 @@ impl Mode {
 }
 
 // A mode as its words, and the mode that three words mean.
-impl From<Mode> for [u32; INPUT_WORDS] {
+impl From<Mode> for [u32; 3] {
     ghost from_gives = { λ mode words. words ≡ mode_words mode };
 
     #[inline]
-    fn from(mode: Mode) -> [u32; INPUT_WORDS] {
+    fn from(mode: Mode) -> [u32; 3] {
         match mode {
             Mode::Idle => [0, 0, 0],
             Mode::Waiting(wanted) => [1, u32::from(wanted.ports), u32::from(wanted.high)],
@@ -173,12 +173,12 @@ impl From<Mode> for [u32; INPUT_WORDS] {
     }
 }
 
-impl From<[u32; INPUT_WORDS]> for Mode {
+impl From<[u32; 3]> for Mode {
     ghost from_gives = { λ words mode. mode ≡ mode_of (word_at words 0) (word_at words 1) (word_at words 2) };
 
     #[inline]
     #[tactic(auto, unfolding(crate::specs::RouterWords::mode_of, crate::specs::RouterWords::wanted_of))]
-    fn from([number, value, high]: [u32; INPUT_WORDS]) -> Mode {
+    fn from([number, value, high]: [u32; 3]) -> Mode {
         match number {
             1 => Mode::Waiting(Wanted {
                 ports: (value % 65536) as u16,
@@ -199,11 +199,11 @@ pub struct Output {
 }
 
 // An output as its words, and the output that three words mean.
-impl From<Output> for [u32; OUTPUT_WORDS] {
+impl From<Output> for [u32; 3] {
     ghost from_gives = { λ output words. words ≡ output_words output.owner output.last };
 
     #[inline]
-    fn from(output: Output) -> [u32; OUTPUT_WORDS] {
+    fn from(output: Output) -> [u32; 3] {
         let granted = words::narrow(output.last);
         match output.owner {
             None => [0, 0, granted],
@@ -212,11 +212,11 @@ impl From<Output> for [u32; OUTPUT_WORDS] {
     }
 }
 
-impl From<[u32; OUTPUT_WORDS]> for Output {
+impl From<[u32; 3]> for Output {
     ghost from_gives = { λ words output. output ≡ record { owner = owner_of (word_at words 0) (word_at words 1); last = word_at words 2 } };
 
     #[inline]
-    fn from([number, input, last]: [u32; OUTPUT_WORDS]) -> Output {
+    fn from([number, input, last]: [u32; 3]) -> Output {
         Output {
             owner: if number == 1 {
                 Some(input as usize)
@@ -407,7 +407,7 @@ fn is_routed_to(words: &Words, i: usize, o: usize) -> bool
 }
 
 // Whether the words of an input are those of no mode, or of one that is refused as STATE.
-fn bad_mode(words: &Words, i: usize, row: [u32; INPUT_WORDS]) -> bool
+fn bad_mode(words: &Words, i: usize, row: [u32; 3]) -> bool
     ensures { result ≡ bad_mode (word_at row 0) (word_at row 1) (word_at row 2) (is_owner (output_at (router_of words.now) (word_at row 1)).owner i) }
 {
     let [number, value, high] = row;
@@ -430,7 +430,7 @@ fn bad_input(words: &Words, i: usize) -> bool
 }
 
 // Whether the words of an output are those of no owner, or are refused as STATE.
-fn bad_owner(words: &Words, o: usize, row: [u32; OUTPUT_WORDS]) -> bool
+fn bad_owner(words: &Words, o: usize, row: [u32; 3]) -> bool
     ensures { result ≡ bad_owner (word_at row 0) (word_at row 1) (word_at row 2) (is_routed (mode_at (router_of words.now) (word_at row 1)) o) }
 {
     let [number, input, last] = row;

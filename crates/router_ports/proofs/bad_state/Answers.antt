@@ -1,6 +1,6 @@
 -- The test of each port in turn.
 -- Assumes nothing.
-use Rattle.std.proofs.Common.{◌≡◌, ◌&&◌, ℕ, Bool, true, false, ltb, refl, sym, ◌∙◌, rules, tests}
+use Rattle.std.proofs.Common.{◌&&◌, ℕ, ltb, refl, sym, ◌∙◌, rules, tests}
 use Rattle.std.proofs.lemmas.Iterator.{YieldsList-from_range}
 use Rattle.std.proofs.lemmas.Iterator.Search.{any_from_yields_List}
 use Rattle.router_ports.specs.StateWords.{bad_port_in}

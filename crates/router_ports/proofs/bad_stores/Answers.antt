@@ -1,6 +1,6 @@
 -- The test of each store in turn.
 -- Assumes nothing.
-use Rattle.std.proofs.Common.{◌≡◌, ℕ, Bool, refl, ◌∙◌, rules, tests}
+use Rattle.std.proofs.Common.{ℕ, refl, ◌∙◌, rules, tests}
 use Rattle.std.proofs.lemmas.Iterator.{YieldsList-from_range}
 use Rattle.std.proofs.lemmas.Iterator.Search.{any_from_yields_List}
 use Rattle.store.specs.Ring.{bad_store}

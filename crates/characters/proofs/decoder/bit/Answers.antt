@@ -24,13 +24,13 @@ pub returns-in-Fresh : goal.returns-in-Fresh
 returns-in-Fresh c =
     let v = c.args.words.now in
     bit_taken v c.args.bit c.truth-b.ensures (sym c.phase_of.ensures ∙ c.in_ok-phase_of.was ∙ ap Ok c.in-Fresh.is) (fresh_means v) refl
-    (λ good shape. c.hunt.ensures)
+    (λ good shape. c.hunt.ensures _ _ _ shape)
 
 pub returns-in-Hunting : goal.returns-in-Hunting
 returns-in-Hunting c =
     let v = c.args.words.now in
     bit_taken v c.args.bit c.truth-b.ensures (sym c.phase_of.ensures ∙ c.in_ok-phase_of.was ∙ ap Ok c.in-Hunting.is) (hunting_means v) refl
-    (λ good shape. rw (ap (λ (w : List ℕ). word_at w 6) shape) at c.hunt-in-Hunting.ensures)
+    (λ good shape. rw (ap (λ (w : List ℕ). word_at w 6) shape) at (c.hunt-in-Hunting.ensures _ _ _ shape))
 
 pub returns-in-Between : goal.returns-in-Between
 unfolding goes_on

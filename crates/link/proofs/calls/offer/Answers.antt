@@ -3,7 +3,7 @@
 use mathlib.Core.Path.{sym}
 use Rattle.link.proofs.RefusedLaws as refused
 use Rattle.link.proofs.TestedLaws.{handed_on}
-use Rattle.link.proofs.HostCallLaws.{offer_accepted_lem, offer_refused_as}
+use Rattle.link.proofs.CallLaws.{offer_accepted_lem, offer_refused_as}
 use Rattle.link.proofs.calls.offer.Goals as goal
 
 pub returns-in_err-offer : goal.returns-in_err-offer

@@ -1,12 +1,11 @@
 -- The N-Char is stored or discarded.
 -- Assumes nothing.
-use mathlib.Core.Path.{sym, ap, ◌∙◌}
+use mathlib.Core.Path.{sym}
 use lib.ListN.{length}
 use Rattle.words.specs.Arguments.{fitted}
-use Rattle.link.specs.LinkCalls.{put_refused}
 use Rattle.link.proofs.RefusedLaws as refused
 use Rattle.link.proofs.TestedLaws.{handed_on}
-use Rattle.link.proofs.HostCallLaws.{put_accepted, put_refused_as}
+use Rattle.link.proofs.CallLaws.{put_accepted, put_refused_as}
 use Rattle.link.proofs.calls.put.Goals as goal
 
 pub returns-in_err-put : goal.returns-in_err-put

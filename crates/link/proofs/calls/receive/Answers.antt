@@ -1,6 +1,6 @@
 -- The token has its effect, the time record is set, then the end settles.
 -- Assumes nothing.
-use mathlib.Core.Path.{◌≡◌, refl, sym, ap, ◌∙◌}
+use mathlib.Core.Path.{◌≡◌, refl, sym, ◌∙◌}
 use lib.ListN.{length}
 use Rattle.vocabulary.specs.Refusals.{STATE, CHAR}
 use Rattle.vocabulary.specs.Tokens.{bad_char}

@@ -2,7 +2,7 @@
 -- Assumes nothing.
 use mathlib.Core.Path.{refl, sym}
 use lib.ListN.{length}
-use Rattle.link.specs.Send.{sending, booked}
+use Rattle.link.specs.Send.{sending}
 use Rattle.link.proofs.LinkLaws.{state_small}
 use Rattle.link.proofs.RefusedLaws.{both}
 use Rattle.link.proofs.TestedLaws.{handed_on}

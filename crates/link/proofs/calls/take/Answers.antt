@@ -4,7 +4,7 @@ use mathlib.Core.Path.{sym}
 use lib.ListN.{length}
 use Rattle.link.proofs.RefusedLaws as refused
 use Rattle.link.proofs.TestedLaws.{handed_on}
-use Rattle.link.proofs.HostCallLaws.{take_accepted_lem, take_refused_as}
+use Rattle.link.proofs.CallLaws.{take_accepted_lem, take_refused_as}
 use Rattle.link.proofs.calls.take.Goals as goal
 
 pub returns-in_err-take : goal.returns-in_err-take

@@ -3,7 +3,7 @@
 use mathlib.Core.Path.{ap}
 use mathlib.Core.Bool.{not}
 use Rattle.vocabulary.specs.Refusals.{NOTRUN}
-use Rattle.link.proofs.TestedLaws.{past, stops, last, refused, past_record, record_stops}
+use Rattle.link.proofs.TestedLaws.{last, refused, past_record, record_stops}
 use Rattle.link.proofs.tested.offer.Goals as goal
 
 pub returns-in_err-record : goal.returns-in_err-record
