@@ -89,6 +89,8 @@ fn send(state: &mut Words, area: &mut [u16], i: usize) -> Deed
     }
 }
 
+// Its loop and that of part 1 stay two: over a closure that borrows state and area, one loop would ask of the closure's
+// calls what each now promises of its own.
 pub(crate) fn send_all(state: &mut Words, area: &mut [u16]) -> Totals
     ensures { (c : Totals) → tally (added c result) (kept state.new area.new) ≡ part3 in_words (tally c (kept state.old area.old)) }
 {
