@@ -40,5 +40,8 @@ pub fn neftolek_encode(state: &mut encoder::Words, kind: u32, value: u32, out: &
     ensures { record { refusal = result; state = state.new; out = out.new }
         ≡ encode_left state.old kind value }
 {
-    words::answer(encoder::encode(state, kind, value).map(<[u32; 2]>::from), out)
+    words::answer(
+        encoder::encode(state, kind, value).map(<[u32; 2]>::from),
+        out,
+    )
 }
