@@ -50,8 +50,12 @@ module _ (bytes : List ℕ) (i : ℕ) (more : i < length bytes) where
   pub byte_taken : bits_in (take (i + 1) bytes) ≡ bits_in (take i bytes) ++ bit_of (get_or bytes i 0)
   unfolding bits_in
   byte_taken =
-      rw (add-one i, take-suc bytes i 0 more, bits_append (take i bytes) (get_or bytes i 0 ∷ []),
-        append-nil (bit_of (get_or bytes i 0)))
+      rw (
+        add-one i,
+        take-suc bytes i 0 more,
+        bits_append (take i bytes) (get_or bytes i 0 ∷ []),
+        append-nil (bit_of (get_or bytes i 0)),
+      )
 
   pub byte_within : bits_in bytes ≡ bits_in (take i bytes) ++ (bit_of (get_or bytes i 0) ++ bits_in (drop (i + 1) bytes))
   byte_within =

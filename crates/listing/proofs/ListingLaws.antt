@@ -6,15 +6,17 @@ use mathlib.Core.Path.{◌≡◌, ap, ◌∙◌}
 use mathlib.Core.List.{List, ◌++◌}
 use Prim.Native.Nat.{ℕ, ◌≤◌, ◌<◌}
 use lib.ListN.{length}
-use Rattle.characters.specs.States.{Fresh}
-use Rattle.characters_stream.specs.Meaning.{Line}
-use Rattle.characters_stream.specs.Feeding.{fed}
 use Rattle.characters_stream.proofs.MeaningProofs.{says_what_is_meant, means_one_thing}
-use Rattle.listing.specs.Ascii.{ascii}
+use Rattle.characters_stream.specs.Feeding.{fed}
+use Rattle.characters_stream.specs.Meaning.{Line}
+use Rattle.characters.specs.States.{Fresh}
 use Rattle.listing.specs.Input.{good, bits_in}
 use Rattle.listing.specs.Text.{text_of}
-use Rattle.listing.specs.Listing.{most_bytes, report_lines, last_line, all_lines, listing}
 use Rattle.listing.specs.Claims.{ListingMeans}
+use Rattle.listing.specs.Ascii.{ascii}
+use Rattle.std.proofs.Common.{Option}
+use Rattle.std.specs.Option.{IsSome}
+use Rattle.listing.specs.Listing.{room, too_small, answer, Rendered, report_lines, last_line, most_bytes, all_lines, listing}
 
 pub too_long : (input : List ℕ) → most_bytes < length input → listing input ≡ ascii "LONG\n"
 unfolding listing
@@ -35,3 +37,9 @@ listing_means input h =
           ∙ ap (λ (all : List Line). text_of all ++ last_line input)
           (means_one_thing.1 bits (fed Fresh 1 bits) lines meant lists),
     )
+
+-- a buffer of this room is never too small
+pub always_written : {input out left : List ℕ} {written : Option ℕ} → Rendered input out written left → room ≤ length out →
+    IsSome written
+unfolding answer too_small
+always_written {input} {out} rendered large = rw (rendered.answers, le-ltb (length out) room large)

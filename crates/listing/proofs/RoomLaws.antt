@@ -17,9 +17,13 @@ use Rattle.characters.specs.Wire.{good_parity}
 use Rattle.characters.specs.Decoder.{goes_on, stops, shifted, no_bits, hunted_for, hunts, closes, escaped, body_odd, body_of, flagged, data_token, data_bit, second_bit, bit_step}
 use Rattle.characters.specs.Refusals.{decoder_refusal}
 use Rattle.characters.specs.Calls.{bit_answer, decode_accepted, decode_refused}
-use Rattle.characters.specs.States.{Waiting, Reported, Whole, Esc, Phase, Hunting, Between, Parity, Data, Control}
-use Rattle.characters.specs.States.{Second, Decoder, Fresh, Heard, Stopped, Step, Report, Nothing, Got, ParityError}
-use Rattle.characters.specs.States.{EscapeError, Disconnect}
+use Rattle.characters.specs.declared.reports.Report.{Report}
+use Rattle.characters.specs.declared.reports.Report.TheVariants.{Got, ParityError, EscapeError, Disconnect}
+use Rattle.characters.specs.declared.reports.Waiting.{Waiting}
+use Rattle.characters.specs.declared.reports.Waiting.TheVariants.{Reported, Whole, Esc}
+use Rattle.characters.specs.States.{Phase, Hunting, Between, Parity, Data, Control, Second, Decoder, Fresh, Heard}
+use Rattle.characters.specs.States.{Stopped, Step}
+use Rattle.std.proofs.Common.{Option, None, Some}
 use Rattle.characters_stream.specs.Feeding.{line_of, fed}
 use Rattle.listing.specs.Ascii.{ascii}
 use Rattle.listing.specs.Decimal.{digit, decimal_in, decimal}
@@ -38,12 +42,12 @@ waits (NChar n) = pick (ltb n 256) 24 10
 waits (TimeCode v) = 24
 
 -- twice the length of a line with a number of five digits
-abbrev cost : Report → ℕ
-cost Nothing = 0
-cost (Got t) = 10 + waits t
-cost ParityError = 26
-cost EscapeError = 26
-cost Disconnect = 12
+abbrev cost : Option Report → ℕ
+cost None = 0
+cost (Some (Got t)) = 10 + waits t
+cost (Some ParityError) = 26
+cost (Some EscapeError) = 26
+cost (Some Disconnect) = 12
 
 abbrev kept : Waiting → ℕ
 kept Reported = 0
@@ -76,7 +80,7 @@ abbrev Pays : ℕ → Step → Type 0
 Pays have step = cost step.report + credit step.decoder ≤ 5 + have
 
 hunt_pays : (found : Bool) (places : ℕ) →
-    Pays 48 (pick found (goes_on (Between Reported) (Got Null)) (goes_on (Hunting places) Nothing))
+    Pays 48 (pick found (goes_on (Between Reported) (Some (Got Null))) (goes_on (Hunting places) None))
 unfolding goes_on
 hunt_pays true places = omega arith
 hunt_pays false places = omega arith
@@ -91,7 +95,7 @@ body_pays Esc true = omega arith
 body_pays Esc false = omega arith
 
 flag_pays : (good : Bool) (w : Waiting) (flag : Bool) →
-    Pays (26 + (5 + kept w)) (pick good (goes_on (body_of (escaped w) flag) (closes w)) (stops ParityError))
+    Pays (26 + (5 + kept w)) (pick good (goes_on (body_of (escaped w) flag) (closes w)) (stops (Some ParityError)))
 unfolding goes_on stops
 flag_pays true w flag = body_pays w flag
 flag_pays false w flag = omega arith
@@ -123,8 +127,8 @@ mark_moves places b =
 data_pays : (escape b odd : Bool) (places : ℕ) → eqb (places % 2) 1 ≡ odd →
     Pays (26 + paid places)
     (pick odd
-    (goes_on (Between (Whole (data_token escape (shifted places b)))) Nothing)
-    (goes_on (Data escape (shifted places b)) Nothing))
+    (goes_on (Between (Whole (data_token escape (shifted places b)))) None)
+    (goes_on (Data escape (shifted places b)) None))
 unfolding goes_on
 data_pays escape b true places e =
     let last = eqb-true (places % 2) 1 e in omega (arith, token_waits escape (shifted places b))
@@ -194,13 +198,13 @@ numbered n text =
     rw (append-nil (decimal n ++ (ascii " " ++ text)))
     (omega (arith, length-append (decimal n) (ascii " " ++ text), decimal_short 5 n))
 
-line_short : (n : ℕ) (r : Report) → 2 * length (text_of (line_of n r)) ≤ cost r
+line_short : (n : ℕ) (r : Option Report) → 2 * length (text_of (line_of n r)) ≤ cost r
 unfolding text_of
-line_short n Nothing = omega arith
-line_short n (Got t) = omega (arith, numbered n (token_text t), token_short t)
-line_short n ParityError = omega (arith, numbered n (ascii "PARITY\n"))
-line_short n EscapeError = omega (arith, numbered n (ascii "ESCAPE\n"))
-line_short n Disconnect = omega (arith, numbered n [])
+line_short n None = omega arith
+line_short n (Some (Got t)) = omega (arith, numbered n (token_text t), token_short t)
+line_short n (Some ParityError) = omega (arith, numbered n (ascii "PARITY\n"))
+line_short n (Some EscapeError) = omega (arith, numbered n (ascii "ESCAPE\n"))
+line_short n (Some Disconnect) = omega (arith, numbered n [])
 
 reports_short : (bits : List Bool) (d : Decoder) (n : ℕ) → 2 * length (text_of (fed d n bits)) ≤ 5 * length bits + credit d
 unfolding text_of fed

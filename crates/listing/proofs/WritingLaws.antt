@@ -6,9 +6,9 @@ use Prim.Native.Nat.{ℕ, suc, ◌+◌, ◌≤◌}
 use native.Mathlib.Nat.{add-zero, add_assoc}
 use native.Mathlib.Omega.{arith}
 use lib.ListN.{length, length-append, take}
-use lib.Seq.{length-take-le, take_all}
+use lib.Seq.{take_all}
 use borrow.Rule.Slice.PartMut.{put_mid}
-use lib.Seq.{sets, sets-eq, paste, length-sets}
+use lib.Seq.{sets, sets-eq, length-sets}
 use Rattle.std.proofs.lemmas.Slice.{put_mid-paste}
 use Rattle.listing.specs.declared.Page.{Page}
 use Rattle.listing.specs.Writing.{Room, Puts}
@@ -19,12 +19,17 @@ sets_append out at [] ys = rw (add-zero at)
 sets_append out at (x ∷ xs) ys =
     let e : suc at + length xs ≡ at + suc (length xs) = omega arith in sets_append _ (suc at) xs ys ∙ rw e
 
--- the part behind the place, filled with the text, is the text written there
-pub part_written : (out : List ℕ) (at k : ℕ) (part text : List ℕ) → part ≡ text → length text ≡ k →
-    at + length text ≤ length out → put_mid at k out part ≡ sets out at text
-part_written out at k part text e n fits =
+-- a part of the buffer that is made a text of its length is that text written there
+pub part_written : (out : List ℕ) (at k : ℕ) (text : List ℕ) → length text ≡ k → at + k ≤ length out →
+    put_mid at k out text ≡ sets out at text
+part_written out at k text n fits =
+    let fits' : at + length text ≤ length out = omega arith in
     let whole : take (length text) text ≡ text = take_all (length text) text (omega arith) in
-    put_mid-paste at k out part text (length text) e n refl ∙ rw whole (sym (sets-eq text out at fits))
+    put_mid-paste at k out text text (length text) refl n refl ∙ rw whole (sym (sets-eq text out at fits'))
+
+pub part_length : (out : List ℕ) (at k : ℕ) (text : List ℕ) → length text ≡ k → at + k ≤ length out →
+    length (put_mid at k out text) ≡ length out
+part_length out at k text n fits = ap length (part_written out at k text n fits) ∙ length-sets out at text
 
 pub nothing_put : (page : Page) → Puts page [] page
 nothing_put page = record { same_buffer = refl; behind = sym (add-zero page.at); stands = refl; same_length = refl }

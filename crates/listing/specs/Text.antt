@@ -5,9 +5,8 @@ use Rattle.vocabulary.specs.Choice.{pick}
 use Rattle.vocabulary.specs.NChars.{EOP}
 use Rattle.vocabulary.specs.declared.Token.{Token}
 use Rattle.vocabulary.specs.declared.Token.TheVariants.{Null, Fct, NChar, TimeCode}
-use Rattle.characters.specs.States.{Report, Nothing, Got, ParityError, EscapeError, Disconnect}
-use Rattle.characters.specs.declared.reports.Report.{Report as New}
-use Rattle.characters.specs.declared.reports.Report.TheVariants as the
+use Rattle.characters.specs.declared.reports.Report.{Report}
+use Rattle.characters.specs.declared.reports.Report.TheVariants.{Got, ParityError, EscapeError, Disconnect}
 use Rattle.characters_stream.specs.Meaning.{Line}
 use Rattle.listing.specs.Ascii.{ascii}
 use Rattle.listing.specs.Decimal.{decimal}
@@ -24,28 +23,16 @@ token_text (NChar n) = pick (ltb n EOP) (value_line (ascii "DATA ") n) (pick (eq
 token_text (TimeCode v) = value_line (ascii "TIME ") v
 
 -- "`PARITY` or `ESCAPE`". A disconnect needs ticks, and a listing has none.
-abbrev pub old_report_text : Report → List ℕ
-old_report_text Nothing = []
-old_report_text (Got t) = token_text t
-old_report_text ParityError = ascii "PARITY\n"
-old_report_text EscapeError = ascii "ESCAPE\n"
-old_report_text Disconnect = []
+abbrev pub report_text : Report → List ℕ
+report_text (Got t) = token_text t
+report_text ParityError = ascii "PARITY\n"
+report_text EscapeError = ascii "ESCAPE\n"
+report_text Disconnect = []
 
 -- "Each line is the number, from 1, of the bit at which the report came", then its text.
-abbrev pub old_line_text : ℕ → Report → List ℕ
-old_line_text n r = decimal n ++ (ascii " " ++ old_report_text r)
-
--- "`PARITY` or `ESCAPE`". A disconnect needs ticks, and a listing has none.
-abbrev pub report_text : New → List ℕ
-report_text (the.Got t) = token_text t
-report_text the.ParityError = ascii "PARITY\n"
-report_text the.EscapeError = ascii "ESCAPE\n"
-report_text the.Disconnect = []
-
--- "Each line is the number, from 1, of the bit at which the report came", then its text.
-abbrev pub line_text : ℕ → New → List ℕ
+abbrev pub line_text : ℕ → Report → List ℕ
 line_text n r = decimal n ++ (ascii " " ++ report_text r)
 
 unfoldable pub text_of : List Line → List ℕ
 text_of [] = []
-text_of (line ∷ lines) = old_line_text line.at line.report ++ text_of lines
+text_of (line ∷ lines) = line_text line.at line.report ++ text_of lines

@@ -25,7 +25,7 @@ struct Page<'a> {
     at: usize,
 }
 
-impl<'a> Page<'a> {
+impl Page<'_> {
     ghost use Rattle.std.specs.Prelude.{[], ◌∷◌};
     ghost use Rattle.vocabulary.specs.declared.Token as Token;
     ghost use Rattle.listing.specs.Decimal.{digit, decimal_in};
@@ -33,14 +33,7 @@ impl<'a> Page<'a> {
     ghost use Rattle.listing.specs.Listing.{all_lines, listing};
     ghost use Rattle.listing.specs.Writing.{Room, Puts};
 
-    fn new(out: &'a mut [u8]) -> Page<'a>
-        ensures same_buffer { result.out.ghost_name ≡ out.entry.ghost_name }
-        ensures same { result.out.now ≡ out.old }
-        ensures begins { result.at ≡ 0 }
-    {
-        Page { out, at: 0 }
-    }
-
+    #[tactic(auto, using(crate::proofs::WritingLaws::part_written, crate::proofs::WritingLaws::part_length))]
     fn put(&mut self, text: &[u8])
         requires { Room self.old text.now }
         ensures { Puts self.old text.now self.new }
@@ -58,6 +51,7 @@ impl<'a> Page<'a> {
         self.put(&[b'0' + d as u8]);
     }
 
+    // At most so many places are written.
     fn put_number(&mut self, places: usize, n: usize)
         requires { Room self.old (decimal_in places n) }
         ensures { Puts self.old (decimal_in places n) self.new }
@@ -72,6 +66,7 @@ impl<'a> Page<'a> {
         }
     }
 
+    // A word, a number and the end of the line.
     fn put_value(&mut self, word: &[u8], n: usize)
         requires { Room self.old (value_line word.now n) }
         ensures { Puts self.old (value_line word.now n) self.new }
@@ -126,6 +121,7 @@ impl<'a> Page<'a> {
         self.put_report(report);
     }
 
+    // The lines of the bits before the first bad byte, and the last line.
     fn put_lines(&mut self, input: &[u8])
         requires { Room self.old (all_lines input.now) }
         ensures { Puts self.old (all_lines input.now) self.new }
@@ -140,6 +136,8 @@ impl<'a> Page<'a> {
         }
     }
 
+    // The whole listing of an input.
+    #[tactic(auto, using(crate::proofs::ListingLaws::too_long, crate::proofs::ListingLaws::not_too_long))]
     fn put_all(&mut self, input: &[u8])
         requires { Room self.old (listing input.now) }
         ensures { Puts self.old (listing input.now) self.new }
@@ -173,14 +171,17 @@ impl Listing {
         Listing { words, count: 0 }
     }
 
+    // A decoder that has stopped refuses the bit, which is only counted.
     fn take_bit(&mut self, page: &mut Page, b: bool)
         requires room { Room page.old (more_text (meant self.old) (b ∷ [])) }
         requires count_bound { self.old.count + 1 < 2 ^ 64 }
         ensures { Goes self.old page.old (b ∷ []) self.new page.new }
     {
-        let mut report = [0u32; 2];
-        decoder::bit(&mut self.words, words::truth_word(b), &mut report);
+        let reported = decoder::bit(&mut self.words, u32::from(b)).unwrap_or(None);
         self.count += 1;
+        if let Some(report) = reported {
+            page.put_line(self.count, report);
+        }
     }
 
     fn take_byte(&mut self, page: &mut Page, byte: u8)
@@ -229,14 +230,14 @@ fn good_length(input: &[u8]) -> usize
 }
 
 // The listing of `input` at the start of `out`, and its length. None where `out` has fewer than `ROOM` bytes.
-// `render(b"01110100", &mut out)` answers 13, and the buffer begins "8 NULL\nEND 8\n".
+// `render(b"01110100", &mut out)` answers `Some(13)`, and the buffer begins "8 NULL\nEND 8\n".
 pub fn render(input: &[u8], out: &mut [u8]) -> Option<usize>
     ensures { Rendered input.now out.old result out.new }
 {
     if out.len() < ROOM {
         return None;
     }
-    let mut page = Page::new(out);
+    let mut page = Page { out, at: 0 };
     page.put_all(input);
     Some(page.at)
 }

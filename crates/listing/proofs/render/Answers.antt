@@ -50,12 +50,9 @@ pub returns-then-out-lt-ROOM : goal.returns-then-out-lt-ROOM
 returns-then-out-lt-ROOM c = refused c.args.input.now c.args.out.now c.if-out-lt-ROOM.true
 
 pub put_all-requires : goal.put_all-requires
-put_all-requires c =
-    let made = c.new-page.ensures in
-    enough c.args.input.now c.args.out.now c.new-page.result made.same made.begins c.if-out-lt-ROOM.false
+put_all-requires c = enough c.args.input.now c.args.out.now _ refl refl c.if-out-lt-ROOM.false
 
 pub returns : goal.returns
 returns c =
-    let made = c.new-page.ensures in
-    rendered c.args.input.now c.args.out.now c.new-page.result made.same made.begins c.if-out-lt-ROOM.false c.put_all.ensures
+    rendered c.args.input.now c.args.out.now _ refl refl c.if-out-lt-ROOM.false c.put_all.ensures
     (grind (arith, common_steps))

@@ -1,7 +1,6 @@
 -- The words of a fresh decoder are those of a decoder, a fresh one.
 -- Assumes nothing.
-use mathlib.Core.Path.{◌≡◌, refl}
-use Rattle.characters.specs.DecoderWords.{decoder_words, decoder_from, decoder_of}
+use Rattle.characters.specs.DecoderWords.{decoder_from, decoder_of}
 use Rattle.characters.specs.States.{Fresh}
 use Rattle.characters.proofs.DecoderLaws.{keeps_decoders}
 use Rattle.listing.proofs.Listing.fresh.Goals as goal

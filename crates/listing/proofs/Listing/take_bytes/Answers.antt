@@ -1,14 +1,12 @@
 -- A byte more: the bits before it and its own are the bits as far as that.
 -- Assumes nothing.
 use mathlib.Core.Path.{◌≡◌}
-use mathlib.Core.Bool.{Bool}
-use mathlib.Core.List.{List, ◌++◌}
-use Prim.Native.Nat.{ℕ, ◌+◌, ◌<◌, ◌≤◌}
+use mathlib.Core.List.{◌++◌}
+use Prim.Native.Nat.{◌+◌}
 use native.Mathlib.Omega.{arith}
 use lib.ListN.{length, get_or, take, drop}
 use lib.Seq.{length-take-le}
 use Rattle.listing.specs.Input.{bit_of, bits_in}
-use Rattle.listing.specs.Writing.{Progress, meant, more_text, progressed}
 use Rattle.listing.proofs.InputLaws.{no_bytes, byte_taken, byte_within, bits_few}
 use Rattle.listing.proofs.LineLaws.{no_bits_taken, room_before, room_behind, both_taken, count_after}
 use Rattle.listing.proofs.Listing.take_bytes.Goals as goal

@@ -12,7 +12,7 @@ use Rattle.listing.specs.Ascii.{ascii}
 use Rattle.listing.specs.Input.{good, bits_in}
 use Rattle.listing.specs.Text.{value_line}
 use Rattle.listing.specs.Listing.{report_lines, last_line}
-use Rattle.listing.specs.Writing.{Room, Puts, Progress, start, meant, more_text, progressed, Goes}
+use Rattle.listing.specs.Writing.{Progress, start, meant, more_text, Goes}
 use Rattle.listing.specs.declared.Page.{Page}
 use Rattle.listing.specs.declared.Listing.{Listing}
 use Rattle.listing.proofs.InputLaws.{good_in_front}
