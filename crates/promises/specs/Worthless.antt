@@ -12,7 +12,8 @@ use Rattle.vocabulary.specs.declared.Token.TheVariants.{Null, Fct}
 use Rattle.vocabulary.specs.Tokens.{kind_of}
 use Rattle.words.specs.Words.{Left, word_at}
 use Rattle.characters.specs.Encoder.{fresh_encoder}
-use Rattle.characters.specs.States.{Whole, Parity, Fresh, Heard}
+use Rattle.characters.specs.declared.reports.Waiting.TheVariants.{Whole}
+use Rattle.characters.specs.States.{Parity, Fresh, Heard}
 use Rattle.characters.specs.DecoderWords.{decoder_words, bit_left}
 use Rattle.characters.specs.EncoderWords.{encoder_words}
 use Rattle.time.specs.Time.{fresh_time}
