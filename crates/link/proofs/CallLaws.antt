@@ -164,7 +164,7 @@ module _ (words rx tx time : List ℕ) (kind value : ℕ) where
   receive_accepted link clock passes f heard s settled = rw (link, clock, eq-eqb _ 0 passes, ← heard, ← settled)
 
 discarded_fits : (size : ℕ) (l : Link) (n : ℕ) → narrow (puts size l n).discarded ≡ (puts size l n).discarded
-unfolding puts put_discarded put_stored
+unfolding puts
 discarded_fits size l n = by l.marks.discarding
   where
     by : (discarding : Bool) →

@@ -8,10 +8,10 @@ use Rattle.link.specs.Records.{Link}
 abbrev pub passes56 : ℕ → Bool
 passes56 held = ltb 56 (held + 8)
 
-unfoldable pub with_held : Link → ℕ → Link
+abbrev pub with_held : Link → ℕ → Link
 with_held l held = with_credit l (record { held = record { 0 = held }; given = l.credit.given })
 
-unfoldable pub with_given : Link → ℕ → Link
+abbrev pub with_given : Link → ℕ → Link
 with_given l given = with_credit l (record { held = l.credit.held; given = record { 0 = given } })
 
 -- "a received N-Char in Run takes 1 and is stored, or at 0 is a credit error and is not stored"

@@ -17,10 +17,10 @@ pub record Settled : Type 0 where
   pub moved : Moved
   pub rx : List ℕ
 
-unfoldable pub settled_at : Link → ℕ → List ℕ → Settled
+abbrev pub settled_at : Link → ℕ → List ℕ → Settled
 settled_at l discarded rx = record { moved = record { link = l; discarded = discarded }; rx = rx }
 
-unfoldable pub no_credit : Credit
+abbrev pub no_credit : Credit
 no_credit = record { held = record { 0 = 0 }; given = record { 0 = 0 } }
 
 -- "A fresh end has the three controls off, empty stores and every number zero." Its marks count as ends.
@@ -37,51 +37,51 @@ fresh_link =
     }
 
 -- the record with one part changed
-unfoldable pub with_stage : Link → Stage → Link
+abbrev pub with_stage : Link → Stage → Link
 with_stage l new =
     record { stage = new; controls = l.controls; credit = l.credit; marks = l.marks; offer = l.offer; rx = l.rx; tx = l.tx }
 
-unfoldable pub with_controls : Link → Controls → Link
+abbrev pub with_controls : Link → Controls → Link
 with_controls l new =
     record { stage = l.stage; controls = new; credit = l.credit; marks = l.marks; offer = l.offer; rx = l.rx; tx = l.tx }
 
-unfoldable pub with_credit : Link → Credit → Link
+abbrev pub with_credit : Link → Credit → Link
 with_credit l new =
     record { stage = l.stage; controls = l.controls; credit = new; marks = l.marks; offer = l.offer; rx = l.rx; tx = l.tx }
 
-unfoldable pub with_marks : Link → Marks → Link
+abbrev pub with_marks : Link → Marks → Link
 with_marks l new =
     record { stage = l.stage; controls = l.controls; credit = l.credit; marks = new; offer = l.offer; rx = l.rx; tx = l.tx }
 
-unfoldable pub with_offer : Link → Option ℕ → Link
+abbrev pub with_offer : Link → Option ℕ → Link
 with_offer l new =
     record { stage = l.stage; controls = l.controls; credit = l.credit; marks = l.marks; offer = new; rx = l.rx; tx = l.tx }
 
-unfoldable pub with_rx : Link → Store → Link
+abbrev pub with_rx : Link → Store → Link
 with_rx l new =
     record { stage = l.stage; controls = l.controls; credit = l.credit; marks = l.marks; offer = l.offer; rx = new; tx = l.tx }
 
-unfoldable pub with_tx : Link → Store → Link
+abbrev pub with_tx : Link → Store → Link
 with_tx l new =
     record { stage = l.stage; controls = l.controls; credit = l.credit; marks = l.marks; offer = l.offer; rx = l.rx; tx = new }
 
 -- the marks with one changed: of the last N-Char stored, sent, taken or put, whether it was data; and whether puts are discarded
-unfoldable pub mark_stored : Marks → Bool → Marks
+abbrev pub mark_stored : Marks → Bool → Marks
 mark_stored m new =
     record { stored = new; sent = m.sent; taken = m.taken; put = m.put; discarding = m.discarding }
 
-unfoldable pub mark_sent : Marks → Bool → Marks
+abbrev pub mark_sent : Marks → Bool → Marks
 mark_sent m new =
     record { stored = m.stored; sent = new; taken = m.taken; put = m.put; discarding = m.discarding }
 
-unfoldable pub mark_taken : Marks → Bool → Marks
+abbrev pub mark_taken : Marks → Bool → Marks
 mark_taken m new =
     record { stored = m.stored; sent = m.sent; taken = new; put = m.put; discarding = m.discarding }
 
-unfoldable pub mark_put : Marks → Bool → Marks
+abbrev pub mark_put : Marks → Bool → Marks
 mark_put m new =
     record { stored = m.stored; sent = m.sent; taken = m.taken; put = new; discarding = m.discarding }
 
-unfoldable pub mark_discarding : Marks → Bool → Marks
+abbrev pub mark_discarding : Marks → Bool → Marks
 mark_discarding m new =
     record { stored = m.stored; sent = m.sent; taken = m.taken; put = m.put; discarding = new }

@@ -8,14 +8,14 @@ use Rattle.link.specs.Ends.{with_marks, with_offer, with_rx, with_tx, mark_taken
 use Rattle.link.specs.Records.{Link, Moved}
 
 -- "later puts are accepted and discarded through the first end"
-unfoldable pub put_discarded : Link → ℕ → Moved
+abbrev pub put_discarded : Link → ℕ → Moved
 put_discarded l n =
     record {
       link = with_marks l (mark_discarding (mark_put l.marks (not (is_end n))) (not (is_end n)));
       discarded = 1;
     }
 
-unfoldable pub put_stored : ℕ → Link → ℕ → Moved
+abbrev pub put_stored : ℕ → Link → ℕ → Moved
 put_stored size l n =
     record { link = with_marks (with_tx l (put_store size l.tx n)) (mark_put l.marks (not (is_end n))); discarded = 0 }
 
@@ -29,9 +29,9 @@ puts_places tx l n = pick l.marks.discarding tx (put_places tx l.tx n)
 abbrev pub taken_n_char : List ℕ → Link → ℕ
 taken_n_char rx l = front_of rx l.rx
 
-unfoldable pub takes : List ℕ → Link → ℕ → Link
+abbrev pub takes : List ℕ → Link → ℕ → Link
 takes rx l n = with_marks (with_rx l (without_first rx l.rx)) (mark_taken l.marks (not (is_end n)))
 
 -- "A second Time-Code offer in Run replaces the first."
-unfoldable pub offers : Link → ℕ → Link
+abbrev pub offers : Link → ℕ → Link
 offers l v = with_offer l (Some v)

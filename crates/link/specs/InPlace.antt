@@ -52,7 +52,7 @@ Settles words rx tx change after discarded rx' =
     × (rx' ≡ (change (record { link = l; rx = rx; tx = tx })).rx)
 
 -- what a token or a fault does before the move, beside the words
-unfoldable pub heard_of : Effect → Heard
+abbrev pub heard_of : Effect → Heard
 heard_of f = record { event = f.event; time = f.time; tick = f.tick }
 
 abbrev pub Hears : List ℕ → List ℕ → (Link → Effect) → (Link → List ℕ) → Heard → List ℕ → List ℕ → Type 0

@@ -104,7 +104,7 @@ unfoldable pub fault_left : List ℕ → List ℕ → List ℕ → ℕ → LinkL
 fault_left words rx tx kind =
     pick (is_link words) (answer_left (numbered_fault (end_of words rx tx) kind)) (no_link words rx (0 ∷ []))
 
-unfoldable pub controls_of : ℕ → ℕ → ℕ → Controls
+abbrev pub controls_of : ℕ → ℕ → ℕ → Controls
 controls_of disabled start auto = record { disabled = truth disabled; start = truth start; auto = truth auto }
 
 unfoldable pub control_left : List ℕ → List ℕ → List ℕ → Controls → LinkLeft

@@ -79,7 +79,7 @@ pub record Conditions : Type 0 where
 abbrev pub enabled_by : Controls → Bool → Bool
 enabled_by c got_null = not c.disabled && (c.start || c.auto && got_null)
 
-unfoldable pub conditions : Link → Conditions
+abbrev pub conditions : Link → Conditions
 conditions l =
     record {
       at_limit = leb (limit_of l.stage.state) l.stage.timer;
@@ -117,6 +117,6 @@ counts_ticks Connecting = true
 counts_ticks Run = false
 
 -- "and is 0 after each move"
-unfoldable pub entered : Link → LinkState → Link
+abbrev pub entered : Link → LinkState → Link
 entered l s =
     with_stage l (record { state = s; timer = 0; gotnull = l.stage.gotnull; nullsent = l.stage.nullsent })

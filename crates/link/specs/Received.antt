@@ -18,11 +18,11 @@ use Rattle.link.specs.declared.FaultKind.{FaultKind}
 use Rattle.link.specs.declared.FaultKind.TheVariants.{ParityFault, EscapeFault, DisconnectFault}
 use Rattle.link.specs.Records.{Link, Effect}
 
-unfoldable pub effect : Link → Event → Time → Bool → Effect
+abbrev pub effect : Link → Event → Time → Bool → Effect
 effect l event time tick = record { link = l; event = event; time = time; tick = tick }
 
 -- "NULL sets gotNULL."
-unfoldable pub got_null : Link → Link
+abbrev pub got_null : Link → Link
 got_null l =
     with_stage l
     (record { state = l.stage.state; timer = l.stage.timer; gotnull = true; nullsent = l.stage.nullsent })
@@ -36,7 +36,7 @@ fct_effect l time =
     (effect l GotFct time false)
 
 -- one N-Char stored, and one given out fewer
-unfoldable pub stored_link : ℕ → Link → ℕ → Link
+abbrev pub stored_link : ℕ → Link → ℕ → Link
 stored_link size l n =
     with_marks (with_rx (with_given l (l.credit.given.0 - 1)) (put_store size l.rx n)) (mark_stored l.marks (not (is_end n)))
 

@@ -13,7 +13,7 @@ use Rattle.link.specs.declared.Event.{Event}
 use Rattle.link.specs.Records.{Link, Moved}
 
 -- "Both counters, gotNULL, the NULL-sent mark and the waiting Time-Code are cleared."
-unfoldable pub cleared : Link → Link
+abbrev pub cleared : Link → Link
 cleared l =
     record {
       stage = record { state = ErrorReset; timer = 0; gotnull = false; nullsent = false };
@@ -35,7 +35,7 @@ closed_places rx l = pick l.marks.stored (put_places rx l.rx EEP) rx
 
 -- "If the last sent N-Char was data, the transmit store is discarded from the front through the first end; if none is there,
 -- later puts are accepted and discarded through the first end. The last sent then counts as an end."
-unfoldable pub discarded_link : List ℕ → Link → Found → Link
+abbrev pub discarded_link : List ℕ → Link → Found → Link
 discarded_link tx l f =
     with_marks (with_tx l (without_found tx l.tx f))
     (mark_discarding (mark_sent l.marks false) (l.marks.discarding || not f.ended))

@@ -10,7 +10,7 @@ use Rattle.link.specs.Records.{Link}
 
 -- "If the last taken N-Char was data, the receive store then holds one EEP, else nothing." "If the last accepted put was data,
 -- later puts are discarded through the first end, else none are. The last stored and last sent then count as ends."
-unfoldable pub emptied : ℕ → Link → Link
+abbrev pub emptied : ℕ → Link → Link
 emptied size l =
     with_marks
     (with_tx (with_rx l (pick l.marks.taken (put_store size fresh_store EEP) fresh_store)) fresh_store)

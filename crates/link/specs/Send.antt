@@ -62,13 +62,13 @@ choice_in Run size tx l = Some (choice_with l.offer size tx l)
 abbrev pub choice : ℕ → List ℕ → Link → Option Token
 choice size tx l = choice_in l.stage.state size tx l
 
-unfoldable pub null_sent : Link → Link
+abbrev pub null_sent : Link → Link
 null_sent l =
     with_stage l
     (record { state = l.stage.state; timer = l.stage.timer; gotnull = l.stage.gotnull; nullsent = true })
 
 -- "A sent N-Char takes 1" of the credit held, and it leaves the transmit store with these places
-unfoldable pub n_char_sent : List ℕ → Link → ℕ → Link
+abbrev pub n_char_sent : List ℕ → Link → ℕ → Link
 n_char_sent tx l n =
     with_marks (with_tx (with_held l (l.credit.held.0 - 1)) (without_first tx l.tx)) (mark_sent l.marks (not (is_end n)))
 

@@ -49,7 +49,7 @@ impl From<Received> for [u32; 2] {
 }
 
 // A link end as it is made: in ErrorReset, controls off, stores empty.
-#[tactic(auto, unfolding(crate::specs::LinkWords::link_words, crate::specs::Ends::fresh_link, crate::specs::Ends::no_credit, store::specs::Changes::fresh_store))]
+#[tactic(auto, unfolding(crate::specs::LinkWords::link_words, crate::specs::Ends::fresh_link, store::specs::Changes::fresh_store))]
 pub fn fresh(words: &mut Words)
     ensures { words.new ≡ link_words fresh_link }
 {

@@ -1,5 +1,5 @@
 // Where each field of an end stands in its words, and the fields that are more than a number or a truth.
-#![tactic(auto, unfolding(crate::specs::LinkWords::link_words, crate::specs::Ends::with_credit, crate::specs::Credit::with_held, crate::specs::Credit::with_given, crate::specs::Ends::with_rx, crate::specs::Ends::with_tx))]
+#![tactic(auto, unfolding(crate::specs::LinkWords::link_words))]
 
 ghost use Rattle.std.specs.Prelude.{◌≡◌, ◌+◌, ◌<◌, length, set};
 ghost use Rattle.words.specs.Words.{truth_word};

@@ -1,5 +1,5 @@
 // What the host does (01, Send, Going to ErrorReset by a move): put, take, offering a Time-Code, the controls.
-#![tactic(auto, unfolding(crate::specs::LinkWords::link_words, store::specs::StoreWords::store_of, crate::specs::Ends::with_marks, crate::specs::Ends::mark_put, crate::specs::Ends::mark_discarding, crate::specs::Ends::mark_taken, crate::specs::Hosts::put_discarded, crate::specs::Hosts::put_stored, crate::specs::Hosts::puts, crate::specs::Hosts::puts_places, crate::specs::Hosts::takes, crate::specs::Hosts::offers, crate::specs::Ends::with_offer, crate::specs::Ends::with_rx, crate::specs::Ends::with_tx, crate::specs::Ends::with_controls, crate::specs::LinkCalls::controls_of))]
+#![tactic(auto, unfolding(crate::specs::LinkWords::link_words, store::specs::StoreWords::store_of, crate::specs::Hosts::puts, crate::specs::Hosts::puts_places))]
 
 ghost use Rattle.std.specs.Prelude.{length};
 ghost use Rattle.link.specs.Records.{Link};

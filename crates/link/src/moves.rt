@@ -1,5 +1,5 @@
 // The moves (01, The link end): which state follows.
-#![tactic(auto, unfolding(crate::specs::LinkWords::link_words, crate::specs::Moves::conditions, crate::specs::Moves::entered, crate::specs::Ends::with_stage))]
+#![tactic(auto, unfolding(crate::specs::LinkWords::link_words))]
 
 ghost use Rattle.std.specs.Prelude.{◌≡◌, ◌<◌, ◌&&◌, leb};
 ghost use Rattle.link.specs.Records.{Link};

@@ -1,5 +1,5 @@
 // What a token, a fault or a tick does before the move (01, The link end, Credit, Time).
-#![tactic(auto, unfolding(crate::specs::LinkWords::link_words, store::specs::StoreWords::store_of, crate::specs::Received::effect, crate::specs::Received::got_null, crate::specs::Received::fct_effect, crate::specs::Received::stored_link, crate::specs::Received::n_char_effect, crate::specs::Received::time_code_effect, crate::specs::Received::token_effect, crate::specs::Received::token_places, crate::specs::Received::counted, crate::specs::InPlace::heard_of, crate::specs::Ends::with_stage, crate::specs::Ends::with_rx, crate::specs::Ends::with_marks, crate::specs::Ends::mark_stored, crate::specs::Credit::with_given, crate::specs::Credit::with_held, crate::specs::Ends::with_credit))]
+#![tactic(auto, unfolding(crate::specs::LinkWords::link_words, store::specs::StoreWords::store_of, crate::specs::Received::fct_effect, crate::specs::Received::n_char_effect, crate::specs::Received::time_code_effect, crate::specs::Received::token_effect, crate::specs::Received::token_places, crate::specs::Received::counted))]
 
 ghost use Rattle.std.specs.Prelude.{◌≡◌, ◌||◌, false, not, length, ◌<◌};
 ghost use Rattle.vocabulary.specs.Choice.{pick};
@@ -115,7 +115,7 @@ fn ignores_token(words: &Words, t: Token) -> bool
     }
 }
 
-#[tactic(auto, unfolding(crate::specs::Received::effect, crate::specs::Received::time_code_effect, crate::specs::InPlace::heard_of))]
+#[tactic(auto, unfolding(crate::specs::Received::time_code_effect))]
 fn hear(words: &mut Words, rx: &mut [u16], time: Time, t: Token) -> Heard
     ensures { Hears words.old rx.old (λ (l : Link). heard_effect (length rx.old) l time t)
         (λ (l : Link). heard_places rx.old l t) result words.new rx.new }

@@ -1,5 +1,5 @@
 // Going to ErrorReset by a move, settling after an event, and reset (01, Going to ErrorReset by a move; Reset).
-#![tactic(auto, unfolding(crate::specs::LinkWords::link_words, store::specs::StoreWords::store_of, store::specs::Changes::fresh_store, crate::specs::Recovery::cleared, crate::specs::Recovery::closed_link, crate::specs::Recovery::closed_places, crate::specs::Recovery::discarded_link, crate::specs::Recovery::rest_discarded, crate::specs::Recovery::goes_down, crate::specs::Recovery::moves_to, crate::specs::Recovery::settles, crate::specs::Reset::emptied, crate::specs::Reset::emptied_places, crate::specs::Reset::resets, crate::specs::Ends::settled_at, crate::specs::Ends::no_credit, crate::specs::Ends::with_rx, crate::specs::Ends::with_tx, crate::specs::Ends::with_marks, crate::specs::Ends::mark_stored, crate::specs::Ends::mark_sent, crate::specs::Ends::mark_discarding))]
+#![tactic(auto, unfolding(crate::specs::LinkWords::link_words, store::specs::StoreWords::store_of, store::specs::Changes::fresh_store, crate::specs::Recovery::closed_link, crate::specs::Recovery::closed_places, crate::specs::Recovery::rest_discarded, crate::specs::Recovery::goes_down, crate::specs::Recovery::moves_to, crate::specs::Recovery::settles, crate::specs::Reset::emptied_places, crate::specs::Reset::resets))]
 
 ghost use Rattle.std.specs.Prelude.{◌≡◌, false, length};
 ghost use Rattle.words.specs.Words.{narrow};
@@ -86,7 +86,7 @@ fn move_to(next: LinkState, words: &mut Words, rx: &mut [u16], tx: &[u16]) -> u3
 }
 
 // After an event's effect: the one move that fits, if any.
-#[tactic(auto, using(crate::proofs::TableLaws::same_is_state), unfolding(crate::specs::Recovery::settles, crate::specs::Recovery::moves_to, crate::specs::Ends::settled_at))]
+#[tactic(auto, using(crate::proofs::TableLaws::same_is_state), unfolding(crate::specs::Recovery::settles, crate::specs::Recovery::moves_to))]
 pub(crate) fn settle(e: Event, words: &mut Words, rx: &mut [u16], tx: &[u16]) -> u32
     ensures { Settles words.old rx.old tx.now (settles e) words.new result rx.new }
 {

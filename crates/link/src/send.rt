@@ -1,5 +1,5 @@
 // What goes out (01, Send).
-#![tactic(auto, unfolding(crate::specs::LinkWords::link_words, store::specs::StoreWords::store_of, crate::specs::Send::null_sent, crate::specs::Send::n_char_sent, crate::specs::Ends::with_stage, crate::specs::Ends::with_marks, crate::specs::Ends::mark_sent, crate::specs::Ends::with_offer, crate::specs::Ends::with_tx, crate::specs::Credit::with_given, crate::specs::Credit::with_held, crate::specs::Ends::with_credit))]
+#![tactic(auto, unfolding(crate::specs::LinkWords::link_words, store::specs::StoreWords::store_of))]
 
 ghost use Rattle.std.specs.Prelude.{◌≡◌, ◌+◌, None};
 ghost use Rattle.vocabulary.specs.Choice.{pick};

@@ -6,10 +6,9 @@ use mathlib.Core.Bool.{true, false, true≢false}
 use mathlib.Core.List.{List, [], ◌∷◌}
 use Prim.Native.Nat.{ℕ}
 use Rattle.vocabulary.specs.declared.Token.{Token}
-use Rattle.link.specs.Ends.{End, settled_at, with_marks, with_rx, with_tx}
+use Rattle.link.specs.Ends.{End}
 use Rattle.link.specs.Moves.{is_state, Conditions, conditions, state_after}
-use Rattle.link.specs.Recovery.{cleared}
-use Rattle.link.specs.Reset.{emptied, resets}
+use Rattle.link.specs.Reset.{resets}
 use Rattle.link.specs.declared.LinkState.{LinkState}
 use Rattle.link.specs.declared.LinkState.TheVariants.{ErrorReset}
 use Rattle.link.specs.declared.Event.{Event}
@@ -56,7 +55,7 @@ module _ (e : End) (u : Up e) where
   all_heard at (a_token t time) x on = rw (expected_heeded e u time t at x on)
 
   pub call_goes : {c : Call} {r : Reply} → Happened e c r → AllExpected e (token_in c) → Goes c r
-  unfolding resets settled_at emptied cleared with_marks with_tx with_rx
+  unfolding resets
   call_goes (nothing c number time refused other) x up = rw refused (u, nothing_passes)
   call_goes (event c this mid sent heard time tick_out is f) x up =
       let after : Onward this e mid _ heard (tokens_of sent) = event_onward u f up in

@@ -9,8 +9,7 @@ use borrow.Author.Tests.{lt-leb}
 use Rattle.store.specs.Changes.{fresh_store}
 use Rattle.store.proofs.RingLaws.{fresh_waits}
 use Rattle.time.specs.Time.{fresh_time}
-use Rattle.link.specs.Ends.{End, settled_at, no_credit, fresh_link, with_stage}
-use Rattle.link.specs.Moves.{conditions, entered}
+use Rattle.link.specs.Ends.{End, no_credit, fresh_link}
 use Rattle.link.specs.Received.{counted}
 use Rattle.link.specs.Recovery.{moves_to, settles}
 use Rattle.link.specs.Calls.{answered, accepted, tick_outcome}
@@ -57,7 +56,7 @@ module _ (rx tx : List ℕ) (allowed : Allowed rx tx) where
       record { sound = fresh_good.sound; held_where = fresh_good.held_where; timer_below = h }
 
   tick_counts : (timer : ℕ) → timer < 63 → ticked_once (fresh_in rx tx ErrorReset timer) ≡ fresh_in rx tx ErrorReset (timer + 1)
-  unfolding replied tick_outcome accepted answered settles moves_to settled_at conditions counted with_stage
+  unfolding replied tick_outcome accepted answered settles moves_to counted
   tick_counts timer h =
       rw (
         good_passes (fresh_in rx tx ErrorReset timer) (reset_good timer (omega (arith, h))),
@@ -65,7 +64,7 @@ module _ (rx tx : List ℕ) (allowed : Allowed rx tx) where
       )
 
   last_tick : ticked_once (fresh_in rx tx ErrorReset 63) ≡ fresh_in rx tx ErrorWait 0
-  unfolding replied tick_outcome accepted answered settles moves_to settled_at conditions counted with_stage entered
+  unfolding replied tick_outcome accepted answered settles moves_to counted
   last_tick = rw (good_passes (fresh_in rx tx ErrorReset 63) (reset_good 63 (omega arith)))
 
   all_ticks : (count timer : ℕ) → count + timer ≡ 63 →
@@ -102,7 +101,6 @@ from_end e =
 
 start_flow : (rx tx rx' tx' : List ℕ) →
     Flow (from_end (fresh_in rx tx ErrorWait 0)) (from_end (fresh_in rx' tx' ErrorWait 0))
-unfolding no_credit
 start_flow rx tx rx' tx' =
     record {
       sum = refl;

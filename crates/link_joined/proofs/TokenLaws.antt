@@ -16,7 +16,7 @@ use Rattle.time.specs.declared.Time.{Time}
 use Rattle.link.specs.Ends.{End}
 use Rattle.link.specs.Moves.{is_state, event_number, Conditions, state_after}
 use Rattle.link.specs.Credit.{passes56, none_given}
-use Rattle.link.specs.Received.{effect, fct_effect, n_char_effect, time_code_effect, token_effect}
+use Rattle.link.specs.Received.{fct_effect, n_char_effect, time_code_effect, token_effect}
 use Rattle.link.specs.Calls.{after_token}
 use Rattle.link.specs.declared.LinkState.TheVariants.{ErrorReset, Run}
 use Rattle.link.specs.declared.Event.TheVariants.{CreditError}
@@ -47,7 +47,7 @@ module _ (e : End) (u : Up e) (time : Time) where
     early : is_early e.link.stage.state (after_token e time t).event ≡ true → NoCreditError t → Comes t
 
   comes : (t : Token) → Expected e t → Comes t
-  unfolding token_effect fct_effect n_char_effect time_code_effect effect
+  unfolding token_effect fct_effect n_char_effect time_code_effect
   comes Null x = heard (rw u.is_up) (rw u.is_up)
   comes Fct x = go (is_late e.link.stage.state) refl
     where

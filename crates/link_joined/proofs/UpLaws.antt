@@ -8,8 +8,8 @@ use Prim.Native.Nat.{ℕ}
 use lib.Dec.{eqb}
 use borrow.Author.Tests.{eqb-true, not-false}
 use Rattle.vocabulary.specs.declared.Token.{Token}
-use Rattle.link.specs.Ends.{End, Settled, settled_at, with_stage}
-use Rattle.link.specs.Moves.{state_number, is_state, Conditions, conditions, state_after, next_state, entered}
+use Rattle.link.specs.Ends.{End, Settled}
+use Rattle.link.specs.Moves.{state_number, is_state, Conditions, conditions, state_after, next_state}
 use Rattle.link.specs.Recovery.{settles}
 use Rattle.link.specs.declared.LinkState.{LinkState}
 use Rattle.link.specs.declared.LinkState.TheVariants.{ErrorReset, Run}
@@ -79,7 +79,6 @@ module _ {this : Event} {e mid : End} {heard sent : List Token} (u : Up e) (f : 
   keeps_puts_mid = ap (λ (m : Marks). m.discarding) f.same_marks ∙ u.keeps_puts
 
   null_sent_then : is_late (next_state this mid.link) ≡ true → mid.link.stage.nullsent ≡ true
-  unfolding conditions
   null_sent_then late = go (is_late mid.link.stage.state) refl
     where
       go : (b : Bool) → is_late mid.link.stage.state ≡ b → mid.link.stage.nullsent ≡ true
@@ -90,7 +89,6 @@ module _ {this : Event} {e mid : End} {heard sent : List Token} (u : Up e) (f : 
 
   onward : {s : Settled} → Settles this mid s → Good (moved mid s) →
       is_state (moved mid s).link.stage.state ErrorReset ≡ false → Onward this e mid (moved mid s) heard sent
-  unfolding settled_at entered with_stage
   onward (stays same) good up =
       record {
         up =

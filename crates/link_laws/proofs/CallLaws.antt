@@ -3,10 +3,9 @@
 use mathlib.Core.Path.{refl}
 use mathlib.Core.Bool.{not-and_self}
 use Rattle.time.specs.declared.Time.{Time}
-use Rattle.link.specs.Ends.{End, settled_at, with_marks, with_rx, with_offer, mark_taken}
+use Rattle.link.specs.Ends.{End}
 use Rattle.link.specs.Moves.{is_state}
 use Rattle.link.specs.Reset.{resets}
-use Rattle.link.specs.Hosts.{takes, offers}
 use Rattle.link.specs.declared.LinkState.TheVariants.{ErrorReset}
 use Rattle.link_laws.specs.Tokens.{n_chars_on, tokens_of}
 use Rattle.link_laws.specs.Calls.{Call, Reply, if_accepted, reply}
@@ -36,7 +35,7 @@ Accounts e c r = Changes e r.end (traffic_of e c r)
 module _ (e : End) (g : Good e) where
   -- what the host does never moves the state, and so stores nothing
   accounts_for : {c : Call} {r : Reply} → Happened e c r → Accounts e c r
-  unfolding resets settled_at takes offers with_marks with_rx with_offer mark_taken
+  unfolding resets
   accounts_for (nothing c number time h other) = rw h (record { good = g; same_size = refl; change = still })
   accounts_for (event c this mid sent heard time tick_out is f) = rw (event_no_reset is, event_heard is) (effect_settles f)
   accounts_for (a_put n time small room) =

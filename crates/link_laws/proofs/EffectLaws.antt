@@ -7,7 +7,7 @@ use mathlib.Core.List.{List, []}
 use Prim.Native.Nat.{ℕ}
 use lib.ListN.{length}
 use Rattle.vocabulary.specs.declared.Token.{Token}
-use Rattle.link.specs.Ends.{End, with_stage, with_controls}
+use Rattle.link.specs.Ends.{End, with_controls}
 use Rattle.link.specs.Moves.{counts_ticks}
 use Rattle.link.specs.Received.{counted}
 use Rattle.link.specs.Recovery.{settles}
@@ -76,11 +76,10 @@ module _ (e : End) (g : Good e) where
   nothing_done event = effected (still_between event g) refl refl refl nothing_passes
 
   pub controls_changed : (c : Controls) → Effected Quiet e (with_link e (with_controls e.link c)) [] []
-  unfolding with_controls
   controls_changed c = effected (still_between Quiet g) refl refl refl nothing_passes
 
   pub tick_counted : Effected Quiet e (with_link e (counted e.link)) [] []
-  unfolding counted with_stage
+  unfolding counted
   tick_counted =
       either_way (λ (l : Link). Effected Quiet e (with_link e l) [] []) (counts_ticks e.link.stage.state) _ _
       (λ counts.

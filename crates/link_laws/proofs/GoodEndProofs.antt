@@ -13,7 +13,7 @@ use Rattle.vocabulary.specs.Refusals.{number}
 use Rattle.store.proofs.OrLaws.{or_left}
 use Rattle.store.proofs.RingLaws.{fresh_good}
 use Rattle.time.specs.Time.{fresh_time, bad_time}
-use Rattle.link.specs.Ends.{End, no_credit, fresh_link}
+use Rattle.link.specs.Ends.{End, fresh_link}
 use Rattle.link.specs.Refusals.{bad_rx_size, bad_tx_size}
 use Rattle.link.specs.Calls.{refused}
 use Rattle.link_laws.specs.Calls.{Reply, Call, Turn}
@@ -28,7 +28,7 @@ use Rattle.link_laws.proofs.CallLaws.{accounts}
 use Rattle.link_laws.proofs.TimeLaws.{time_good}
 
 pub fresh_passes : (rx tx : List ℕ) → bad_rx_size (length rx) ≡ false → bad_tx_size (length tx) ≡ false → Passes (fresh_end rx tx)
-unfolding fresh_end fresh_link no_credit
+unfolding fresh_end fresh_link
 fresh_passes rx tx r t =
     let some_rx : 0 < length rx = omega (arith, ltb-false (length rx) 9 (or_left _ (ltb 4096 (length rx)) r)) in
     let some_tx : 0 < length tx = ltb-false (length tx) 1 (or_left _ (ltb 4096 (length tx)) t) in

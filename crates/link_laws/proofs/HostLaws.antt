@@ -16,11 +16,9 @@ use Rattle.store.proofs.RingLaws.{waiting_length, fresh_waits, fresh_good, put_g
 use Rattle.store.proofs.RingLaws.{drop_good}
 use Rattle.store.proofs.OrLaws.{or_left}
 use Rattle.store.proofs.RingLaws.{drop_len, front_is_first}
-use Rattle.link.specs.Ends.{End, settled_at, no_credit, with_marks, with_offer, with_rx, with_tx, mark_stored, mark_sent}
-use Rattle.link.specs.Ends.{mark_taken, mark_put, mark_discarding}
-use Rattle.link.specs.Recovery.{cleared}
-use Rattle.link.specs.Reset.{emptied, emptied_places, resets}
-use Rattle.link.specs.Hosts.{put_discarded, put_stored, puts, puts_places, taken_n_char, takes, offers}
+use Rattle.link.specs.Ends.{End}
+use Rattle.link.specs.Reset.{emptied_places, resets}
+use Rattle.link.specs.Hosts.{puts, puts_places, taken_n_char, takes, offers}
 use Rattle.link.specs.Calls.{with_link}
 use Rattle.link.specs.Records.{Moved}
 use Rattle.link_laws.specs.NothingLost.{eep_if, rx_waits, tx_waits}
@@ -45,7 +43,7 @@ module _ (e : End) where
   after_offer v = with_link e (offers e.link v)
 
   pub put_stage : (n : ℕ) → (after_put n).link.stage ≡ e.link.stage
-  unfolding puts put_discarded put_stored with_marks with_tx
+  unfolding puts
   put_stage n =
       either_way (λ (m : Moved). m.link.stage ≡ e.link.stage) e.link.marks.discarding _ _ (λ h. refl) (λ h. refl)
 
@@ -59,12 +57,10 @@ module _ (e : End) (g : Good e) where
     pub passes : Passes e e' [] [] puts takes
 
   pub offer_hosted : (v : ℕ) → Hosted (after_offer e v) [] []
-  unfolding offers with_offer
   offer_hosted v = record { good = g; same_stage = refl; same_size = refl; same_discarding = refl; passes = nothing_passes }
 
   pub take_hosted : empty e.link.rx ≡ false →
       Hosted (after_take e) [] (taken_of e ∷ [])
-  unfolding takes with_marks with_rx mark_taken
   take_hosted some =
       let good : bad_store (length e.rx) e.link.rx ≡ false = g.sound.rx_good in
       let shorter : (dropped (length e.rx) e.link.rx 1).len ≡ e.link.rx.len - 1 =
@@ -87,7 +83,7 @@ module _ (e : End) (g : Good e) where
 
   pub put_hosted : (n : ℕ) → above_eep n ≡ false → e.link.marks.discarding ≡ false →
       full (length e.tx) e.link.tx ≡ false → Hosted (after_put e n) (n ∷ []) []
-  unfolding puts puts_places put_stored with_marks with_tx mark_put
+  unfolding puts puts_places
   put_hosted n small keeps not_full =
       let good : bad_store (length e.tx) e.link.tx ≡ false = g.sound.tx_good in
       let read : read_as n ≡ n = rw small in
@@ -121,7 +117,7 @@ module _ (e : End) (g : Good e) where
 
   pub put_change : (n : ℕ) → above_eep n ≡ false →
       not e.link.marks.discarding && full (length e.tx) e.link.tx ≡ false → Puts n
-  unfolding puts puts_places put_discarded put_stored with_marks with_tx mark_put mark_discarding
+  unfolding puts puts_places
   put_change n small room = go e.link.marks.discarding refl
     where
       go : (discarding : Bool) → e.link.marks.discarding ≡ discarding → Puts n
@@ -180,8 +176,7 @@ module _ (e : End) (g : Good e) where
   Resets = Changes e (moved e (resets e.rx e.link)) (did_reset (eep_if e.link.marks.taken))
 
   pub reset_change : Resets
-  unfolding resets settled_at emptied emptied_places cleared no_credit with_marks with_tx with_rx
-      mark_discarding mark_sent mark_stored
+  unfolding resets emptied_places
   reset_change = go e.link.marks.taken refl
     where
       go : (last : Bool) → e.link.marks.taken ≡ last → Resets

@@ -7,7 +7,7 @@ use mathlib.Core.List.{[]}
 use Prim.Native.Nat.{◌<◌}
 use native.Mathlib.Omega.{arith}
 use borrow.Author.Tests.{leb-false, eqb-true, eqb-false, ne_eqb}
-use Rattle.link.specs.Ends.{End, Settled, settled_at, with_stage}
+use Rattle.link.specs.Ends.{End, Settled, settled_at}
 use Rattle.link.specs.Moves.{state_number, is_state, limit_of, counts_ticks, conditions, next_state, entered}
 use Rattle.link.specs.Recovery.{goes_down, moves_to, settles}
 use Rattle.link.specs.declared.LinkState.{LinkState}
@@ -43,7 +43,6 @@ settled event e =
 
 stay_good : (event : Event) (e : End) → Between event e →
     is_state (next_state event e.link) e.link.stage.state ≡ true → Good e
-unfolding conditions
 stay_good event e b stay =
     record {
       sound = b.sound;
@@ -69,7 +68,6 @@ limit_positive Run = omega arith
 enter_good : (event : Event) (e : End) → Between event e →
     is_state (next_state event e.link) e.link.stage.state || is_state (next_state event e.link) ErrorReset ≡ false →
     Good (moved e (settled_at (entered e.link (next_state event e.link)) 0 e.rx))
-unfolding settled_at entered with_stage
 enter_good event e b onward =
     record {
       sound =
@@ -86,7 +84,6 @@ Moves e s =
     Changes e (moved e s) (traffic [] s.moved.discarded (eep_if (fell e (moved e s) && e.link.marks.stored)))
 
 moves : {event : Event} {e : End} {s : Settled} → Between event e → Settles event e s → Moves e s
-unfolding settled_at entered with_stage
 moves {event} {e} b (stays h) =
     record { good = stay_good event e b h; same_size = refl; change = rw (not-and_self (is_state e.link.stage.state ErrorReset)) still }
 moves {event} {e} b (falls up) =

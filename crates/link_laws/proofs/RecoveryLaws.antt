@@ -7,8 +7,8 @@ use mathlib.Core.List.{List, [], ◌++◌, append-nil}
 use Prim.Native.Nat.{ℕ, ◌≤◌}
 use native.Mathlib.Omega.{arith}
 use borrow.Author.Tests.{lt-leb}
-use Rattle.link.specs.Ends.{End, Settled, no_credit, with_marks, with_rx, with_tx, mark_stored, mark_sent, mark_discarding}
-use Rattle.link.specs.Recovery.{cleared, closed_link, closed_places, discarded_link, rest_discarded, goes_down}
+use Rattle.link.specs.Ends.{End, Settled}
+use Rattle.link.specs.Recovery.{cleared, closed_link, closed_places, rest_discarded, goes_down}
 use Rattle.link.specs.Calls.{with_link}
 use lib.ListN.{length, take, drop, take-append-drop}
 use lib.Seq.{length-take-le, drop-length, drop-nil}
@@ -41,13 +41,12 @@ abbrev discard : End → End
 discard e = with_link e (rest_discarded e.tx e.link).link
 
 clear_good : (event : Event) (e : End) → Between event e → Good (clear e)
-unfolding cleared no_credit
 clear_good event e b =
     all_cleared b.sound refl b.sound.rx_good b.sound.tx_good λ stored. omega (arith, b.sound.stored_room stored)
 
 close_change : (e : End) → Good e → e.link.credit.given.0 ≡ 0 →
     Changes e (close e) (traffic [] 0 (eep_if e.link.marks.stored))
-unfolding closed_link closed_places with_marks with_rx mark_stored
+unfolding closed_link closed_places
 close_change e g none = go e.link.marks.stored refl
   where
     go : (b : Bool) → e.link.marks.stored ≡ b → Changes e (close e) (traffic [] 0 (eep_if e.link.marks.stored))
@@ -110,7 +109,7 @@ module _ (places : List ℕ) (s : Store) (good : bad_store (length places) s ≡
 
 discard_change : (e : End) → Good e →
     Changes e (discard e) (traffic [] (rest_discarded e.tx e.link).discarded [])
-unfolding rest_discarded discarded_link with_marks with_tx mark_discarding mark_sent
+unfolding rest_discarded
 discard_change e g =
     either_way (λ (m : Moved). Changes e (with_link e m.link) (traffic [] m.discarded [])) e.link.marks.sent _ _
     (λ h.
@@ -151,7 +150,7 @@ discard_change e g =
 
 pub down_change : (event : Event) (e : End) → Between event e →
     Changes e (moved e (goes_down e)) (traffic [] (goes_down e).moved.discarded (eep_if e.link.marks.stored))
-unfolding goes_down cleared no_credit
+unfolding goes_down
 down_change event e b =
     let closing : Changes (clear e) (close (clear e)) (traffic [] 0 (eep_if e.link.marks.stored)) =
     close_change (clear e) (clear_good event e b) refl in
@@ -167,7 +166,7 @@ down_change event e b =
     }
 
 pub down_state : (e : End) → (goes_down e).moved.link.stage.state ≡ ErrorReset
-unfolding goes_down rest_discarded discarded_link closed_link cleared with_marks with_rx with_tx
+unfolding goes_down rest_discarded closed_link
 down_state e =
     let closed : (closed_link (length e.rx) (cleared e.link)).stage.state ≡ ErrorReset =
     either_way (λ (l : Link). l.stage.state ≡ ErrorReset) e.link.marks.stored _ _ (λ h. refl) (λ h. refl) in

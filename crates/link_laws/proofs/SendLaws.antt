@@ -16,9 +16,8 @@ use Rattle.store.specs.Ring.{free, empty}
 use Rattle.store.specs.Changes.{front_of}
 use Rattle.store.proofs.ReadLaws.{read_small}
 use Rattle.store.proofs.RingLaws.{drop_good, front_is_first}
-use Rattle.link.specs.Ends.{End, with_stage, with_credit, with_marks, with_offer, with_tx, mark_sent}
-use Rattle.link.specs.Credit.{with_held, with_given}
-use Rattle.link.specs.Send.{grants, has_n_char, choice_with, choice_in, null_sent, n_char_sent, booked_token, booked, sending}
+use Rattle.link.specs.Ends.{End}
+use Rattle.link.specs.Send.{grants, has_n_char, choice_with, choice_in, booked_token, booked, sending}
 use Rattle.link.specs.Calls.{with_link, sent}
 use Rattle.link.specs.declared.LinkState.{LinkState}
 use Rattle.link.specs.declared.LinkState.TheVariants.{ErrorReset, ErrorWait, Ready, Started, Connecting, Run}
@@ -36,20 +35,17 @@ module _ (e : End) (g : Good e) where
   Books t = Effected Quiet e (with_link e (booked_token e.tx e.link t)) [] (t ∷ [])
 
   null_books : Books Null
-  unfolding null_sent with_stage
   null_books =
       effected (still_between Quiet g) refl refl refl
       (stores_stay refl refl (omega arith) (omega arith) (sends_null refl) (hears_none refl) (refl, tt))
 
   module _ (there : is_late e.link.stage.state ≡ true) where
     time_code_books : (v : ℕ) → Books (TimeCode v)
-    unfolding with_offer
     time_code_books v =
         effected (still_between Quiet g) refl refl refl
         (stores_stay refl refl (omega arith) (omega arith) (sends_late (TimeCode v) there refl) (hears_none refl) (refl, tt))
 
     fct_books : grants (length e.rx) e.link ≡ true → Books Fct
-    unfolding with_given with_credit
     fct_books may =
         let given : ℕ = e.link.credit.given.0 in
         let places : ℕ = free (length e.rx) e.link.rx in
@@ -66,7 +62,6 @@ module _ (e : End) (g : Good e) where
         (stores_stay refl refl (omega arith) (omega arith) (sends_late Fct there refl) (hears_none refl) (refl, tt))
 
     n_char_books : has_n_char e.link ≡ true → Books (NChar (front_of e.tx e.link.tx))
-    unfolding n_char_sent with_marks with_tx with_held with_credit mark_sent
     n_char_books has =
         let credit : eqb e.link.credit.held.0 0 ≡ false =
         not-true (eqb e.link.credit.held.0 0)

@@ -14,7 +14,7 @@ use Rattle.time.specs.declared.Time.{Time}
 use Rattle.link.specs.Ends.{End}
 use Rattle.link.specs.Moves.{is_state}
 use Rattle.link.specs.Credit.{passes56, none_given}
-use Rattle.link.specs.Received.{effect, fct_effect, n_char_effect, time_code_effect, ignores_token, heard_effect, token_effect}
+use Rattle.link.specs.Received.{fct_effect, n_char_effect, time_code_effect, ignores_token, heard_effect, token_effect}
 use Rattle.link.specs.Calls.{Outcome, receipt_of, received, receive_refused, receiving, token_accepted, receive_outcome}
 use Rattle.link.specs.declared.LinkState.TheVariants.{Connecting, Run}
 use Rattle.link.specs.Records.{Link, Effect, Receipt}
@@ -32,7 +32,7 @@ module _ (time : Time) (good : bad_time time ≡ false) where
       either_way (λ (t : Time). bad_time t ≡ false) (is_next time v) _ _ (λ h. le-ltb 63 (v % 64) (omega arith)) (λ h. good)
 
   heard_good : (size : ℕ) (l : Link) (t : Token) → Keeps (heard_effect size l time t)
-  unfolding effect fct_effect n_char_effect time_code_effect
+  unfolding fct_effect n_char_effect time_code_effect
   heard_good size l Null = good
   heard_good size l Fct =
       either_way Keeps (is_state l.stage.state Connecting || is_state l.stage.state Run) _ _
@@ -44,7 +44,7 @@ module _ (time : Time) (good : bad_time time ≡ false) where
       either_way Keeps (is_state l.stage.state Run) _ _ (λ h. counted_good v) (λ h. good)
 
   token_good : (size : ℕ) (l : Link) (t : Token) → Keeps (token_effect size l time t)
-  unfolding token_effect effect
+  unfolding token_effect
   token_good size l t = either_way Keeps (ignores_token l t) _ _ (λ h. good) (λ h. heard_good size l t)
 
   receive_good : (e : End) (t : Token) → bad_time (reply e time (receive t)).time ≡ false

@@ -18,10 +18,10 @@ use Rattle.store.specs.Changes.{put_store}
 use Rattle.store.proofs.RingLaws.{put_good, put_keeps_length, put_appends, put_len}
 use Rattle.store.proofs.OrLaws.{or_right}
 use Rattle.time.specs.declared.Time.{Time}
-use Rattle.link.specs.Ends.{End, with_stage, with_credit, with_marks, with_rx, mark_stored}
+use Rattle.link.specs.Ends.{End}
 use Rattle.link.specs.Moves.{is_state}
-use Rattle.link.specs.Credit.{passes56, with_held, with_given, none_given}
-use Rattle.link.specs.Received.{effect, got_null, fct_effect, stored_link, stores_n_char, n_char_effect, time_code_effect}
+use Rattle.link.specs.Credit.{passes56, none_given}
+use Rattle.link.specs.Received.{fct_effect, stores_n_char, n_char_effect, time_code_effect}
 use Rattle.link.specs.Received.{ignores_all, ignores_token, heard_effect, token_effect, heard_places, token_places}
 use Rattle.link.specs.Calls.{with_link, after_token}
 use Rattle.link.specs.declared.LinkState.TheVariants.{Connecting, Run}
@@ -63,7 +63,6 @@ module _ (e : End) (g : Good e) (time : Time) where
       (heeded e.link t) []
 
   null_heard : ignores_token e.link Null ≡ false → Heard Null
-  unfolding effect got_null with_stage
   null_heard heard =
       rw heard
       (effected (still_between Quiet g) refl refl refl
@@ -74,7 +73,7 @@ module _ (e : End) (g : Good e) (time : Time) where
   known heard = not-false e.link.stage.gotnull (or_right (ignores_all e.link) _ heard)
 
   time_code_heard : (v : ℕ) → ignores_token e.link (TimeCode v) ≡ false → Heard (TimeCode v)
-  unfolding time_code_effect effect
+  unfolding time_code_effect
   time_code_heard v heard =
       rw heard
       (either_way (λ (f : Effect). Effected f.event e (with_link e f.link) (TimeCode v ∷ []) [])
@@ -86,7 +85,7 @@ module _ (e : End) (g : Good e) (time : Time) where
           (stores_stay refl refl (omega arith) (omega arith) (sends_none refl) (is_told (TimeCode v) (known heard)) tt)
 
   fct_heard : ignores_token e.link Fct ≡ false → Heard Fct
-  unfolding fct_effect effect with_held with_credit
+  unfolding fct_effect
   fct_heard heard = go (is_late e.link.stage.state) (passes56 e.link.credit.held.0) refl refl
     where
       go : (late past : Bool) → is_late e.link.stage.state ≡ late → passes56 e.link.credit.held.0 ≡ past → Heard Fct
@@ -107,7 +106,7 @@ module _ (e : End) (g : Good e) (time : Time) where
           (stores_stay refl refl (omega arith) (omega arith) (sends_none refl) (is_told Fct (known heard)) tt))
 
   n_char_heard : (n : ℕ) → above_eep n ≡ false → ignores_token e.link (NChar n) ≡ false → Heard (NChar n)
-  unfolding n_char_effect effect stored_link with_given with_credit with_rx with_marks mark_stored
+  unfolding n_char_effect
   n_char_heard n small heard = go (is_state e.link.stage.state Run) (none_given e.link.credit.given.0) refl refl
     where
       go : (run none : Bool) → is_state e.link.stage.state Run ≡ run →
@@ -163,7 +162,7 @@ module _ (e : End) (g : Good e) (time : Time) where
       (heeded e.link t) []
 
   pub token_effect_lem : (t : Token) → bad_char t ≡ false → HearsToken t
-  unfolding token_effect token_places effect
+  unfolding token_effect token_places
   token_effect_lem t small = go (ignores_token e.link t) refl
     where
       go : (ignored : Bool) → ignores_token e.link t ≡ ignored → HearsToken t

@@ -9,9 +9,9 @@ use Rattle.vocabulary.specs.Choice.{pick}
 use Rattle.store.specs.Packets.{through_end, holds_end}
 use Rattle.store.specs.Changes.{found}
 use Rattle.store.proofs.RingLaws.{found_count, found_ended}
-use Rattle.link.specs.Ends.{End, Settled, settled_at, with_stage, with_marks, with_rx, with_tx, mark_stored, mark_sent, mark_discarding}
-use Rattle.link.specs.Moves.{is_state, entered}
-use Rattle.link.specs.Recovery.{cleared, closed_link, discarded_link, rest_discarded, goes_down, settles}
+use Rattle.link.specs.Ends.{End, Settled}
+use Rattle.link.specs.Moves.{is_state}
+use Rattle.link.specs.Recovery.{closed_link, rest_discarded, goes_down, settles}
 use Rattle.link.specs.declared.LinkState.TheVariants.{ErrorReset}
 use Rattle.link.specs.declared.Event.{Event}
 use Rattle.link.specs.Records.{Marks}
@@ -42,7 +42,7 @@ module _ (event : Event) (e : End) (b : Between event e) where
       × ((goes_down e).moved.discarded ≡ pick e.link.marks.sent (through_end (tx_waits e)) 0)
 
   down : Recovered
-  unfolding goes_down rest_discarded discarded_link closed_link cleared with_marks with_rx with_tx mark_stored mark_sent mark_discarding
+  unfolding goes_down rest_discarded closed_link
   down = go e.link.marks.stored e.link.marks.sent refl refl
     where
       ended : (found e.tx e.link.tx).ended ≡ holds_end (tx_waits e)
@@ -58,7 +58,6 @@ module _ (event : Event) (e : End) (b : Between event e) where
       go false false h k = rw (h, k, or-false e.link.marks.discarding) (refl, refl)
 
   marks : {s : Settled} → Settles event e s → Recovers e s
-  unfolding settled_at entered with_stage
   marks (stays h) = unmoved (not-and_self (is_state e.link.stage.state ErrorReset)) refl refl
   marks (falls up) = fallen (rw (up, down_state e)) down.0 down.1
   marks (enters h on) = unmoved (rw (on, and-false (not (is_state e.link.stage.state ErrorReset)))) refl refl

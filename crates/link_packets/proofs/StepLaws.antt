@@ -12,12 +12,11 @@ use Rattle.vocabulary.specs.declared.Token.{Token}
 use Rattle.store.specs.Ring.{empty, full}
 use Rattle.store.proofs.RingLaws.{fresh_waits}
 use Rattle.time.specs.declared.Time.{Time}
-use Rattle.link.specs.Ends.{End, settled_at, with_marks, with_offer, with_rx, with_tx, mark_stored, mark_sent, mark_taken}
-use Rattle.link.specs.Ends.{mark_put, mark_discarding}
+use Rattle.link.specs.Ends.{End}
 use Rattle.link.specs.Moves.{is_state}
-use Rattle.link.specs.Recovery.{cleared, settles}
-use Rattle.link.specs.Reset.{emptied, resets}
-use Rattle.link.specs.Hosts.{put_discarded, put_stored, puts, puts_places, takes, offers}
+use Rattle.link.specs.Recovery.{settles}
+use Rattle.link.specs.Reset.{resets}
+use Rattle.link.specs.Hosts.{puts, puts_places}
 use Rattle.link.specs.declared.LinkState.TheVariants.{ErrorReset}
 use Rattle.link.specs.declared.Event.{Event}
 use Rattle.link.specs.Records.{Marks}
@@ -72,13 +71,11 @@ module _ {was : Bool} {got out : Stretches} {taken handed_in : List ℕ} (e : En
       (effect_holds e mid f h))
 
   offer_holds : (v : ℕ) (time : Time) → After (offer v) (done (after_offer e v) 0 [] None [] time false)
-  unfolding offers with_offer
   offer_holds v time = rw (append-nil taken, append-nil handed_in) (same_stretch h)
 
   module _ (g : Good e) where
     take_holds : (time : Time) → empty e.link.rx ≡ false →
         After take (done (after_take e) 0 [] None (taken_of e ∷ []) time false)
-    unfolding takes with_marks with_rx mark_taken
     take_holds time some =
         let first : rx_waits e ≡ taken_of e ∷ rx_waits (after_take e) =
         sym (append-nil (rx_waits e)) ∙ (take_hosted e g some).passes.receive in
@@ -99,7 +96,7 @@ module _ {was : Bool} {got out : Stretches} {taken handed_in : List ℕ} (e : En
 
     put_holds : (n : ℕ) (time : Time) → above_eep n ≡ false →
         not e.link.marks.discarding && full (length e.tx) e.link.tx ≡ false → AfterPut n time
-    unfolding puts puts_places put_discarded put_stored with_marks with_tx mark_put mark_discarding
+    unfolding puts puts_places
     put_holds n time small room = go e.link.marks.discarding refl
       where
         at : (d : Bool) → e.link.marks.discarding ≡ d →
@@ -120,7 +117,7 @@ module _ {was : Bool} {got out : Stretches} {taken handed_in : List ℕ} (e : En
     reset_holds : (time : Time) →
         After reset
         (done (moved e (resets e.rx e.link)) (resets e.rx e.link).moved.discarded [] None [] time false)
-    unfolding resets settled_at emptied cleared with_marks with_tx with_rx mark_discarding mark_sent mark_stored
+    unfolding resets
     reset_holds time =
         let eep : rx_waits (moved e (resets e.rx e.link)) ≡ eep_if e.link.marks.taken =
         sym

@@ -5,7 +5,6 @@ use lib.ListN.{length}
 use Rattle.vocabulary.specs.Refusals.{STATE, CHAR}
 use Rattle.vocabulary.specs.Tokens.{bad_char}
 use Rattle.words.specs.Arguments.{token_of}
-use Rattle.link.specs.InPlace.{heard_of}
 use Rattle.link.proofs.RefusedLaws.{receive, with_time}
 use Rattle.link.proofs.TestedLaws.{past, stops, answers, handed_on, past_both, both_stops}
 use Rattle.link.proofs.CallLaws.{receive_accepted, receive_refused_as}
@@ -37,7 +36,6 @@ returns-in_err-token c =
     ∙ with_time a.words.now (length a.rx.now) (length a.tx.now) a.time.now (token_of a.kind a.value)))
 
 pub returns : goal.returns
-unfolding heard_of
 returns c =
     let a = c.args in
     let t = token_of a.kind a.value in

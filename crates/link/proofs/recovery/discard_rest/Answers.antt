@@ -2,8 +2,7 @@
 -- Assumes nothing.
 use Rattle.std.proofs.Common.{refl}
 use mathlib.Core.Bool.{or-true, or-false}
-use Rattle.link.specs.Ends.{with_marks, with_tx, mark_sent, mark_discarding}
-use Rattle.link.specs.Recovery.{discarded_link, rest_discarded}
+use Rattle.link.specs.Recovery.{rest_discarded}
 use Rattle.link.specs.LinkWords.{SENT, link_words}
 use Rattle.store.specs.StoreWords.{store_of}
 use Rattle.link.proofs.FieldLaws.{truth_told}
@@ -12,7 +11,7 @@ use Rattle.link.proofs.recovery.discard_rest.Goals as goal
 use Rattle.link.proofs.recovery.discard_rest.Goals.{then-not-found, else-not-found}
 
 pub returns-after-not-found : goal.returns-after-not-found
-unfolding link_words store_of rest_discarded discarded_link with_marks with_tx mark_sent mark_discarding
+unfolding link_words store_of rest_discarded
 returns-after-not-found c =
     let store = c.store_at-store.ensures in (
       λ small l e.
