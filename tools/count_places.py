@@ -55,7 +55,7 @@ def functions(path, text):
                 clauses.append((clause.group(2), ' '.join(text[brace + 1:after - 1].split())))
                 rest = after
                 continue
-            answer = re.match(r'\s*->\s*[^{;]*?(?=\s*(where|requires|ensures|\{|;))', text[rest:])
+            answer = re.match(r'\s*->\s*(?:[^{;\[]|\[[^\]]*\])*?(?=\s*(where|requires|ensures|\{|;))', text[rest:])
             if answer and not result:
                 result = ' '.join(answer.group(0).split())
                 rest += answer.end()

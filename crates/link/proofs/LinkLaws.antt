@@ -1,6 +1,6 @@
 -- The words of a link end give it back, part by part; and words are an end's where each is the word of what it means.
 -- Assumes nothing.
-use Prim.Native.Nat.{ℕ, zero, suc, ◌<◌}
+use Prim.Native.Nat.{ℕ, zero, suc}
 use mathlib.Core.Path.{◌≡◌, refl, ap, ◌∙◌}
 use mathlib.Core.Bool.{Bool, true, false, not, ◌||◌, ◌&&◌, and-true}
 use mathlib.Core.List.{List, [], ◌∷◌}
@@ -23,7 +23,7 @@ use Rattle.link.specs.LinkWords.{link_words, link_of, stage_in, controls_in, cre
 use Rattle.link.specs.LinkWords.{time_words, time_of, is_link, is_time, FitsOffer, KeepsLinks}
 use Rattle.link.specs.LinkWords.{STATE, GOT_NULL, NULL_SENT, DISABLED, START, AUTO, STORED, SENT, TAKEN, PUT}
 use Rattle.link.specs.LinkWords.{DISCARDING, OFFERED, CODE}
-use Rattle.link.proofs.TableLaws.{state_of_number, number_small}
+use Rattle.link.proofs.TableLaws.{state_of_number}
 
 stage_back : (l : Link) → stage_in (link_words l) ≡ l.stage
 unfolding stage_in link_words
@@ -86,11 +86,6 @@ offer_fits words = by (eqb (word_at words OFFERED) 0) (word_at words CODE)
     by : (none : Bool) (code : ℕ) → FitsOffer (pick none None (Some (byte code)))
     by true code = tt
     by false code = omega arith
-
--- the words of an end have a state's number
-pub state_small : (words : List ℕ) (l : Link) → words ≡ link_words l → word_at words STATE < 6
-unfolding link_words
-state_small words l e = rw e (number_small l.stage.state)
 
 -- A list is the list of its members.
 abbrev listed : (ℕ → ℕ) → ℕ → List ℕ

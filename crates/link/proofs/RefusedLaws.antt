@@ -27,14 +27,13 @@ use Rattle.link.specs.LinkCalls.{both_refused, no_fault, fault_refused, receive_
 use Rattle.link.specs.LinkCalls.{offer_refused}
 use Rattle.link.specs.InPlace.{Good}
 use Rattle.link.proofs.RecordLaws.{timer_small}
-use Rattle.link.proofs.LinkLaws.{own_words, offer_fits, state_small}
+use Rattle.link.proofs.LinkLaws.{own_words, offer_fits}
 
 -- the words of an end, and what its own tests say of it
 pub record Accepted (words : List ℕ) (refusal : ℕ) : Type 0 where
   pub is_link_lem : is_link words ≡ true
   pub own : words ≡ link_words (link_of words)
   pub good : Good (link_of words)
-  pub state : word_at words 0 < 6
   pub timer : word_at words TIMER < 255
   pub passes : refusal ≡ 0
 
@@ -50,7 +49,6 @@ accepted words refusal link passes good =
       is_link_lem = link;
       own = own;
       good = (good, offer_fits words);
-      state = state_small words (link_of words) own;
       timer = timer_word words good;
       passes = passes;
     }

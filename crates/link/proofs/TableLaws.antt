@@ -4,19 +4,16 @@
 use mathlib.Core.Path.{◌≡◌, refl, sym, ap, subst, ◌∙◌}
 use mathlib.Core.Bool.{Bool, true, false}
 use mathlib.Core.List.{List, [], ◌∷◌}
-use Prim.Native.Nat.{ℕ, zero, suc, ◌+◌, ◌-◌, ◌*◌, ◌/◌, ◌%◌, ◌≤◌, ◌<◌}
+use Prim.Native.Nat.{ℕ, zero, suc, ◌+◌, ◌-◌, ◌≤◌, ◌<◌}
 use native.Mathlib.Omega.{arith}
-use lib.Dec.{T, eqb, eqb→eq}
+use lib.Dec.{T, eqb→eq}
 use lib.ListN.{get_or}
 use denote.Enum.Bare.{sameb}
 use Rattle.link.specs.contracts.LinkState.{the_type}
 use Rattle.vocabulary.specs.Choice.{pick}
 use Rattle.vocabulary.proofs.Below.{below, every, same, same_eq, each, each_at}
-use Rattle.words.specs.Words.{word_at}
 use Rattle.link.specs.Moves.{state_number, is_state, event_number, Conditions, state_after}
 use Rattle.link.specs.Table.{table_at, states, state_of, column_holds, first_from, looked_up, SaysMoves, FindsFirstThatFits}
-use Rattle.link.specs.Records.{Link}
-use Rattle.link.specs.LinkWords.{STATE, link_words}
 use Rattle.link.specs.declared.LinkState.{LinkState}
 use Rattle.link.specs.declared.LinkState.TheVariants.{ErrorReset, ErrorWait, Ready, Started, Connecting, Run}
 use Rattle.link.specs.declared.Event.{Event}

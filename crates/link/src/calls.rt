@@ -1,4 +1,6 @@
 // The calls on a link end. Each takes any words, places and numbers: what is bad is refused, and then nothing changes.
+// Words and places are parameters of their own and no struct, and controls, kinds and values are numbers: so C lends and hands them
+// over (`neftolek_link_tick`), and a call is lent only the places that it needs, and to change only those that it changes.
 ghost use Rattle.std.specs.Prelude.{◌≡◌, ◌<◌, [], ◌∷◌};
 ghost use Rattle.vocabulary.specs.Refusals.{refusal_in, answer_in};
 ghost use Rattle.words.specs.Words.{word_at};
@@ -123,9 +125,10 @@ pub fn send(words: &mut Words, rx: &mut [u16], tx: &[u16]) -> Result<Sent, Refus
 fn time_in(time: &TimeWords) -> Time
     ensures { word_at time.now 0 < 256 → result ≡ time_of time.now }
 {
-    let count = words::byte(time[0]);
-    let ticked = words::truth(time[1]);
-    Time { count, ticked }
+    Time {
+        count: words::byte(time[0]),
+        ticked: words::truth(time[1]),
+    }
 }
 
 fn set_time(time: &mut TimeWords, t: Time)

@@ -9,7 +9,7 @@ use vocabulary::{Refusal, refuse};
 
 // What every call tests: that the words are an end's, and its record's numbers.
 #[inline(always)]
-pub(crate) fn record(words: &Words) -> Result<(), Refusal>
+fn record(words: &Words) -> Result<(), Refusal>
     ensures { refusal_in result ≡ record_refused words.now }
 {
     refuse(refusals::no_link(words), Refusal::State)?;

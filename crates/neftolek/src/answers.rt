@@ -1,8 +1,10 @@
 // What calls answer, as the words that C gets.
 ghost use Rattle.std.specs.Prelude.{◌≡◌, [], ◌∷◌};
 ghost use Rattle.vocabulary.specs.Refusals.{refusal_in};
+ghost use Rattle.characters.specs.Reports.{report_words};
 ghost use Rattle.router.specs.Records.{ran_words};
 
+use characters::reports::Report;
 use router::Ran;
 use vocabulary::Refusal;
 
@@ -39,4 +41,14 @@ pub(crate) fn ran(ran: Ran) -> [u32; 3]
     ensures { result ≡ ran_words ran }
 {
     [ran.rounds, ran.moved, ran.errors]
+}
+
+// Of a bit or a tick: the number and the value of the report, 0 and 0 where there is none.
+pub(crate) fn reported(report: Option<Report>) -> [u32; 2]
+    ensures { result ≡ report_words report }
+{
+    match report {
+        Some(report) => report.into(),
+        None => [0, 0],
+    }
 }

@@ -1,24 +1,12 @@
 // Decoder and encoder. A refused call leaves the state's words and answers zeros in `out`.
 ghost use Rattle.std.specs.Prelude.{◌≡◌};
 ghost use Rattle.characters.specs.States.{Fresh};
-ghost use Rattle.characters.specs.Reports.{report_words};
 ghost use Rattle.characters.specs.Encoder.{fresh_encoder};
 ghost use Rattle.characters.specs.DecoderWords.{decoder_words, bit_left, tick_left};
-ghost use Rattle.characters.specs.Reports.{report_words};
 ghost use Rattle.characters.specs.EncoderWords.{encoder_words, encode_left};
 
-use characters::reports::Report;
+use crate::answers;
 use characters::{decoder, encoder};
-
-// The number and the value of a report; 0 and 0 where there is none.
-fn report_words(report: Option<Report>) -> [u32; 2]
-    ensures { result ≡ report_words report }
-{
-    match report {
-        Some(report) => report.into(),
-        None => [0, 0],
-    }
-}
 
 pub fn neftolek_decoder_fresh(state: &mut decoder::Words)
     ensures { state.new ≡ decoder_words Fresh }
@@ -31,14 +19,14 @@ pub fn neftolek_decoder_bit(state: &mut decoder::Words, bit: u32, out: &mut [u32
     ensures { record { refusal = result; state = state.new; out = out.new }
         ≡ bit_left state.old bit }
 {
-    words::answer(decoder::bit(state, bit).map(report_words), out)
+    words::answer(decoder::bit(state, bit).map(answers::reported), out)
 }
 
 pub fn neftolek_decoder_tick(state: &mut decoder::Words, out: &mut [u32; 2]) -> u32
     ensures { record { refusal = result; state = state.new; out = out.new }
         ≡ tick_left state.old }
 {
-    words::answer(decoder::tick(state).map(report_words), out)
+    words::answer(decoder::tick(state).map(answers::reported), out)
 }
 
 pub fn neftolek_encoder_fresh(state: &mut encoder::Words)
@@ -52,5 +40,8 @@ pub fn neftolek_encode(state: &mut encoder::Words, kind: u32, value: u32, out: &
     ensures { record { refusal = result; state = state.new; out = out.new }
         ≡ encode_left state.old kind value }
 {
-    words::answer(encoder::encode(state, kind, value).map(<[u32; 2]>::from), out)
+    words::answer(
+        encoder::encode(state, kind, value).map(<[u32; 2]>::from),
+        out,
+    )
 }

@@ -10,7 +10,9 @@ use Rattle.vocabulary.specs.Tokens.{kind_of, value_of}
 use Rattle.vocabulary.specs.declared.Token.{Token}
 use Rattle.vocabulary.specs.declared.Token.TheVariants.{Null, Fct, NChar, TimeCode}
 use Rattle.characters.specs.Reports.{report_kind, report_value}
-use Rattle.characters.specs.States.{Report, Nothing, Got, ParityError, EscapeError, Disconnect}
+use Rattle.std.specs.Prelude.{Option, None, Some}
+use Rattle.characters.specs.declared.reports.Report.{Report}
+use Rattle.characters.specs.declared.reports.Report.TheVariants.{Got, ParityError, EscapeError, Disconnect}
 use Rattle.link.specs.Table.{state_of}
 use Rattle.link.proofs.TableLaws.{state_of_number}
 use Rattle.link.specs.Send.{sent_kind, sent_value, offer_number, offer_value}
@@ -38,20 +40,21 @@ back_token Fct = refl
 back_token (NChar n) = refl
 back_token (TimeCode v) = refl
 
-abbrev find_report : ℕ → ℕ → Report
+abbrev find_report : ℕ → ℕ → Option Report
 find_report n v =
-    pick (eqb n 0) Nothing
-    (pick (eqb n 5) ParityError (pick (eqb n 6) EscapeError (pick (eqb n 7) Disconnect (Got (find_token n v)))))
+    pick (eqb n 0) None
+    (pick (eqb n 5) (Some ParityError)
+    (pick (eqb n 6) (Some EscapeError) (pick (eqb n 7) (Some Disconnect) (Some (Got (find_token n v))))))
 
-back_report : (r : Report) → find_report (report_kind r) (report_value r) ≡ r
-back_report Nothing = refl
-back_report (Got Null) = refl
-back_report (Got Fct) = refl
-back_report (Got (NChar n)) = refl
-back_report (Got (TimeCode v)) = refl
-back_report ParityError = refl
-back_report EscapeError = refl
-back_report Disconnect = refl
+back_report : (r : Option Report) → find_report (report_kind r) (report_value r) ≡ r
+back_report None = refl
+back_report (Some (Got Null)) = refl
+back_report (Some (Got Fct)) = refl
+back_report (Some (Got (NChar n))) = refl
+back_report (Some (Got (TimeCode v))) = refl
+back_report (Some ParityError) = refl
+back_report (Some EscapeError) = refl
+back_report (Some Disconnect) = refl
 
 abbrev find_sent : ℕ → ℕ → Option Token
 find_sent n v = pick (eqb n 0) None (Some (find_token n v))

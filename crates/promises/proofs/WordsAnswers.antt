@@ -1,7 +1,8 @@
 -- `words`: each promise is an equation with a definition, so two answers that it allows are one.
 -- Assumes nothing.
 use mathlib.Core.Path.{sym, ◌∙◌}
-use Rattle.promises.specs.OneAnswer.{OneResult}
+use Rattle.std.proofs.Common.{ℕ, Fits, w64}
+use Rattle.promises.specs.OneAnswer.{OneResult, OnePlaces}
 use Rattle.words.proofs.truth.Kinds as truth_kinds
 use Rattle.words.proofs.truth.Reads as truth_reads
 use Rattle.words.proofs.truth_word.Kinds as truth_word_kinds
@@ -29,8 +30,13 @@ byte κs a x y s t p q = p ∙ sym q
 pub narrow : OneResult 0 narrow_kinds.ps narrow_kinds.r narrow_reads.Post
 narrow κs a x y s t p q = p ∙ sym q
 
-pub answer : OneResult 1 answer_kinds.ps answer_kinds.r answer_reads.Post
-answer κs a x y s t p q = p.0 ∙ sym q.0
+pub answer : (n : ℕ) (f : Fits w64 n) → OneResult 2 (answer_kinds.ps n f) (answer_kinds.r n f) (answer_reads.Post n f)
+answer n f κs a x y s t p q = p.0 ∙ sym q.0
+
+-- and one content of what C gets beside the number
+pub answer_out : (n : ℕ) (f : Fits w64 n) → OnePlaces 2 (answer_kinds.ps n f) (answer_kinds.r n f) (answer_reads.Post n f)
+    (λ κs s. s.1.0.now)
+answer_out n f κs a x y s t p q = p.1 ∙ sym q.1
 
 pub fitted : OneResult 0 fitted_kinds.ps fitted_kinds.r fitted_reads.Post
 fitted κs a x y s t p q = p ∙ sym q

@@ -111,7 +111,7 @@ refusing_all =
       router_run = λ build refuses κs kept. refuses κs _ (ap (λ (left : RouterLeft). left.refusal) kept);
       router_write = λ build refuses κs kept. refuses κs _ kept.0;
       router_read = λ build refuses κs kept. refuses κs _ kept.0;
-      router_held = λ build refuses κs kept. refuses κs _ (ap (λ (left : HeldLeft). left.refusal) kept.1);
+      router_held = λ build refuses κs kept. refuses κs _ (ap (λ (left : HeldLeft). left.refusal) kept);
     }
 
 saying_null : (build : Build Bit) → SaysOnlyNull build → BreaksAt Bit bit14 build
@@ -186,7 +186,7 @@ idle_later build idles κs kept =
     absurd (omega (
       arith,
       sym (ap (λ (left : RouterLeft). word_at left.state 3) kept)
-          ∙ ap (λ (words : List ℕ). word_at words 3) (idles κs _ _ _ 9),
+          ∙ ap (λ (words : List ℕ). word_at words 3) (idles κs _ _ _ _ 9),
     ))
 
 pub worthless_builds_shut_out : WorthlessBuildsShutOut
@@ -214,6 +214,6 @@ worthless_builds =
       refuses_all = λ κs a none. absurd (omega (arith, none));
       says_null = λ κs a. null_for_lem (word_at (bit_left a.0.now a.1.0).out 0);
       stays = λ κs a here. here;
-      idles_later = λ κs words area table more. refl;
+      idles_later = λ κs words area table answer more. refl;
       invents = λ κs one. absurd (omega (arith, one));
     }

@@ -1,12 +1,12 @@
--- The promises of the calls that 01, The ten refusals, speaks of: each as the toolchain reads it from the contract.
+-- The promises of the calls that 01, The ten refusals, speaks of, as C makes them: each as the toolchain reads it from the contract.
 -- Assumes nothing.
 use Rattle.std.specs.Prelude.{List, ℕ}
 use contract.Lifetimes.{Lfts}
 use denote.Triple.Clauses.{AtExit}
 use borrow.Fn.Kinds.{ParamKind, ResultKind, Out, Dens, res_t, ended_of}
-use Rattle.characters.proofs.encoder.encode as encode
-use Rattle.characters.proofs.decoder.bit as bit
-use Rattle.characters.proofs.decoder.tick as decoder_tick
+use Rattle.neftolek.proofs.character_calls.neftolek_encode as encode
+use Rattle.neftolek.proofs.character_calls.neftolek_decoder_bit as bit
+use Rattle.neftolek.proofs.character_calls.neftolek_decoder_tick as decoder_tick
 use Rattle.neftolek.proofs.link_calls.neftolek_link_tick as tick
 use Rattle.neftolek.proofs.link_calls.neftolek_link_fault as fault
 use Rattle.neftolek.proofs.link_calls.neftolek_link_control as control
@@ -16,12 +16,12 @@ use Rattle.neftolek.proofs.link_calls.neftolek_link_receive as receive
 use Rattle.neftolek.proofs.link_calls.neftolek_link_put as put
 use Rattle.neftolek.proofs.link_calls.neftolek_link_take as take
 use Rattle.neftolek.proofs.link_calls.neftolek_link_offer as offer
-use Rattle.router.proofs.put as router_put
-use Rattle.router.proofs.take as router_take
-use Rattle.router.proofs.run as router_run
-use Rattle.router.proofs.write_row as router_write
-use Rattle.router.proofs.read_row as router_read
-use Rattle.router.proofs.still_held as router_held
+use Rattle.neftolek.proofs.router_calls.neftolek_router_put as router_put
+use Rattle.neftolek.proofs.router_calls.neftolek_router_take as router_take
+use Rattle.neftolek.proofs.router_calls.neftolek_router_run as router_run
+use Rattle.neftolek.proofs.router_calls.neftolek_router_write_row as router_write
+use Rattle.neftolek.proofs.router_calls.neftolek_router_read_row as router_read
+use Rattle.neftolek.proofs.held_calls.neftolek_router_still_held as router_held
 
 -- the promise of a function with these parameters and this result
 pub record Promise : Type 3 where
@@ -97,16 +97,16 @@ abbrev pub RouterPut : Promise
 RouterPut = promise 2 router_put.Kinds.ps router_put.Kinds.r router_put.Reads.Post
 
 abbrev pub RouterTake : Promise
-RouterTake = promise 2 router_take.Kinds.ps router_take.Kinds.r router_take.Reads.Post
+RouterTake = promise 3 router_take.Kinds.ps router_take.Kinds.r router_take.Reads.Post
 
 abbrev pub RouterRun : Promise
-RouterRun = promise 3 router_run.Kinds.ps router_run.Kinds.r router_run.Reads.Post
+RouterRun = promise 4 router_run.Kinds.ps router_run.Kinds.r router_run.Reads.Post
 
 abbrev pub RouterWrite : Promise
 RouterWrite = promise 2 router_write.Kinds.ps router_write.Kinds.r router_write.Reads.Post
 
 abbrev pub RouterRead : Promise
-RouterRead = promise 2 router_read.Kinds.ps router_read.Kinds.r router_read.Reads.Post
+RouterRead = promise 3 router_read.Kinds.ps router_read.Kinds.r router_read.Reads.Post
 
 abbrev pub RouterHeld : Promise
-RouterHeld = promise 1 router_held.Kinds.ps router_held.Kinds.r router_held.Reads.Post
+RouterHeld = promise 2 router_held.Kinds.ps router_held.Kinds.r router_held.Reads.Post

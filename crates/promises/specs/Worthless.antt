@@ -1,19 +1,19 @@
 -- 01, How tight each promise is: "Five worthless builds have to be shut out." Of each, what makes it worthless, and the
 -- promises that every such build breaks, at arguments named here.
 -- Assumes nothing.
-use Rattle.std.specs.Prelude.{◌≡◌, true, false, List, [], ◌∷◌, ℕ, suc, ◌≤◌, replicate, eqb, leb, Ok, Err}
+use Rattle.std.specs.Prelude.{◌≡◌, true, false, List, [], ◌∷◌, ℕ, suc, ◌≤◌, replicate, eqb, leb}
 use contract.Lifetimes.{Lfts}
 use Rattle.std.specs.Borrow.{Bor}
 use denote.MutBor.{MutBor}
 use borrow.Fn.Kinds.{Dens}
 use Rattle.vocabulary.specs.Choice.{pick}
 use Rattle.vocabulary.specs.NChars.{EOP}
-use Rattle.vocabulary.specs.Refusals.{STATE as ROUTER_STATE, refusal_in, answer_in}
 use Rattle.vocabulary.specs.declared.Token.TheVariants.{Null, Fct}
 use Rattle.vocabulary.specs.Tokens.{kind_of}
 use Rattle.words.specs.Words.{Left, word_at}
 use Rattle.characters.specs.Encoder.{fresh_encoder}
-use Rattle.characters.specs.States.{Whole, Parity, Fresh, Heard}
+use Rattle.characters.specs.declared.reports.Waiting.TheVariants.{Whole}
+use Rattle.characters.specs.States.{Parity, Fresh, Heard}
 use Rattle.characters.specs.DecoderWords.{decoder_words, bit_left}
 use Rattle.characters.specs.EncoderWords.{encoder_words}
 use Rattle.time.specs.Time.{fresh_time}
@@ -26,7 +26,6 @@ use Rattle.router_table.specs.Rows.{fresh_table}
 use Rattle.router_ports.specs.Ports.{fresh_router, output_store, with_store}
 use Rattle.router_ports.specs.RouterWords.{router_words}
 use Rattle.router_ports.specs.Records.{Router}
-use Rattle.router.specs.Records.{none_ran}
 use Rattle.router.specs.RouterCalls.{RouterLeft, run_left}
 use Rattle.router.specs.Cases.{smallest, holding}
 use Rattle.promises.specs.Promises.{Done, Promise, Arguments, Build, Number, BreaksAt, Encode, Bit, DecoderTick}
@@ -98,15 +97,12 @@ pub record RefusingAll : Type 0 where
   pub put : NoneRefusesAll Put (λ κs d. d.0) (λ κs. (link fresh_link, (lent tx, (65, (out 1, tt)))))
   pub take : NoneRefusesAll Take (λ κs d. d.0) (λ κs. (link one_received, (shown rx, (out 2, tt))))
   pub offer : NoneRefusesAll Offer (λ κs d. d.0) (λ κs. (link in_run, (5, (out 1, tt))))
-  pub router_put : NoneRefusesAll RouterPut (λ κs d. refusal_in d.0) (λ κs. (router fresh_router, (lent area, (1, (65, tt)))))
-  pub router_take : NoneRefusesAll RouterTake (λ κs d. refusal_in d.0) (λ κs. (router one_routed, (shown area, (3, tt))))
-  pub router_run :
-      NoneRefusesAll RouterRun (λ κs d. refusal_in d.0) (λ κs. (router fresh_router, (lent area, (shown table, (1, tt)))))
-  pub router_write :
-      NoneRefusesAll RouterWrite (λ κs d. refusal_in d.0) (λ κs. (shown (router_words fresh_router), (lent table, (39, (4, tt)))))
-  pub router_read :
-      NoneRefusesAll RouterRead (λ κs d. refusal_in d.0) (λ κs. (shown (router_words fresh_router), (shown table, (39, tt))))
-  pub router_held : NoneRefusesAll RouterHeld (λ κs d. refusal_in d.0) (λ κs. (shown (router_words fresh_router), (1, tt)))
+  pub router_put : NoneRefusesAll RouterPut (λ κs d. d.0) (λ κs. (router fresh_router, (lent area, (1, (65, tt)))))
+  pub router_take : NoneRefusesAll RouterTake (λ κs d. d.0) (λ κs. (router one_routed, (shown area, (3, (out 1, tt)))))
+  pub router_run : NoneRefusesAll RouterRun (λ κs d. d.0) (λ κs. (router fresh_router, (lent area, (shown table, (1, (out 3, tt))))))
+  pub router_write : NoneRefusesAll RouterWrite (λ κs d. d.0) (λ κs. (shown (router_words fresh_router), (lent table, (39, (4, tt)))))
+  pub router_read : NoneRefusesAll RouterRead (λ κs d. d.0) (λ κs. (shown (router_words fresh_router), (shown table, (39, (out 1, tt)))))
+  pub router_held : NoneRefusesAll RouterHeld (λ κs d. d.0) (λ κs. (shown (router_words fresh_router), (1, (out 11, tt))))
 
 -- ---- "A decoder that always says NULL": whatever token it reports, 1 to 4 by number, it is NULL
 abbrev pub SaysOnlyNull : Build Bit → Type 0
@@ -134,15 +130,15 @@ tick64 κs = (
 -- ---- "A router right in round one and idle later": one round or more leave the words that one leaves
 abbrev pub IdleLater : Build RouterRun → Type 0
 IdleLater build =
-    (κs : Lfts 3) (words area : MutBor (List ℕ)) (table : Bor (List ℕ)) (more : ℕ) →
-    (build κs (words, (area, (table, (suc more, tt))))).1.0.now
+    (κs : Lfts 4) (words area : MutBor (List ℕ)) (table : Bor (List ℕ)) (answer : MutBor (List ℕ)) (more : ℕ) →
+    (build κs (words, (area, (table, (suc more, (answer, tt)))))).1.0.now
     ≡ (run_left words.now area.now table.now 1).state
 
 -- a run of 10, as of the paper's two examples: input 1 holds 3, 65, EOP, and input 1 holds 11, EOP
 abbrev pub run_of10 : List ℕ → Arguments RouterRun
 run_of10 held κs = (
   router (holding smallest 1 held).router,
-  (lent (holding smallest 1 held).area, (shown table, (10, tt))),
+  (lent (holding smallest 1 held).area, (shown table, (10, (out 3, tt)))),
 )
 
 abbrev pub to_output3 : Arguments RouterRun
@@ -177,9 +173,9 @@ pub record Inventing : Type 0 where
   pub fault :
       NoneInvents Fault (λ κs d. word_at d.1.1.1.1.1.0.now 0)
       (λ κs. (link (waiting_to_send 3 in_run), (lent rx, (shown tx, (7, (out 1, tt)))))) 2
-  pub rounds : NoneInvents RouterRun (λ κs d. (answer_in none_ran d.0).rounds) to_output3 3
-  pub moved : NoneInvents RouterRun (λ κs d. (answer_in none_ran d.0).moved) to_output3 2
-  pub errors : NoneInvents RouterRun (λ κs d. (answer_in none_ran d.0).errors) to_nowhere 1
+  pub rounds : NoneInvents RouterRun (λ κs d. word_at d.1.1.1.1.1.0.now 0) to_output3 3
+  pub moved : NoneInvents RouterRun (λ κs d. word_at d.1.1.1.1.1.0.now 1) to_output3 2
+  pub errors : NoneInvents RouterRun (λ κs d. word_at d.1.1.1.1.1.0.now 2) to_nowhere 1
 
 -- every build of the five kinds breaks a promise
 pub record WorthlessBuildsShutOut : Type 0 where
@@ -215,10 +211,8 @@ one_rounder κs a = told (run_left a.0.now a.1.0.now a.1.1.0.now 1)
   where
     told : RouterLeft → Done RouterRun κs
     told left = (
-      pick (eqb left.refusal 0)
-          (Ok (record { rounds = word_at left.out 0; moved = word_at left.out 1; errors = word_at left.out 2 }))
-          (Err ROUTER_STATE),
-      (lent left.state, (lent left.area, (a.1.1.0, (a.1.1.1.0, tt)))),
+      left.refusal,
+      (lent left.state, (lent left.area, (a.1.1.0, (a.1.1.1.0, (lent left.out, tt))))),
     )
 
 abbrev pub undercounter : Build Put

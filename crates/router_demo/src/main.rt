@@ -3,7 +3,7 @@
 
 use router_ports::{PORTS, STORES, WORDS, Words};
 use router_table::{ROWS, Table};
-use std::io;
+use std::{fmt, io};
 use vocabulary::Refusal;
 
 // The smallest stores that a router may have.
@@ -12,10 +12,20 @@ const PLACES: usize = 9;
 const AREA: usize = STORES * PLACES;
 
 // Why the program ends early: a call is refused, or a line cannot be written.
-#[derive(Debug, Drop)]
+#[derive(Drop)]
 enum Failure {
     Refused(Refusal),
     Unwritten(io::Error),
+}
+
+// By hand, so that what `main` ends with reads as the error itself.
+impl fmt::Debug for Failure {
+    fn fmt<W: fmt::Write>(&self, f: &mut fmt::Formatter<W>) -> fmt::Result {
+        match self {
+            Failure::Refused(refusal) => refusal.fmt(f),
+            Failure::Unwritten(error) => error.fmt(f),
+        }
+    }
 }
 
 impl From<Refusal> for Failure {

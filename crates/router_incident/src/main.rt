@@ -13,10 +13,20 @@ const PLACES: usize = 9;
 const AREA: usize = STORES * PLACES;
 
 // Why the program ends early: a call is refused, or a line cannot be written.
-#[derive(Debug, Drop)]
+#[derive(Drop)]
 enum Failure {
     Refused(Refusal),
     Unwritten(io::Error),
+}
+
+// By hand, so that what `main` ends with reads as the error itself.
+impl fmt::Debug for Failure {
+    fn fmt<W: fmt::Write>(&self, f: &mut fmt::Formatter<W>) -> fmt::Result {
+        match self {
+            Failure::Refused(refusal) => refusal.fmt(f),
+            Failure::Unwritten(error) => error.fmt(f),
+        }
+    }
 }
 
 impl From<Refusal> for Failure {

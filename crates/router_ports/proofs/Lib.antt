@@ -10,6 +10,7 @@ pub mod ListedLaws
 pub mod PlaceWords
 pub mod RowLaws
 pub mod LayoutLaws
+pub mod StoreTestLaws
 pub mod StateWordsLaws
 pub mod RowTestLaws
 pub mod KeepsProof

@@ -2,7 +2,7 @@
 // in one lent area.
 #![tactic(auto)]
 
-ghost use Rattle.std.specs.Prelude.{◌≡◌, ◌&&◌, ltb, length, ℕ, ◌+◌, ◌*◌, ◌/◌, ◌<◌, ◌≤◌};
+ghost use Rattle.std.specs.Prelude.{◌≡◌, ◌&&◌, ◌||◌, ltb, length, ℕ, ◌+◌, ◌*◌, ◌/◌, ◌<◌, ◌≤◌};
 ghost use Rattle.std.proofs.lemmas.List.Edits.{sets};
 ghost use Rattle.vocabulary.specs.Choice.{pick};
 ghost use Rattle.words.specs.Words.{word_at};
@@ -16,7 +16,7 @@ ghost use Rattle.router_ports.specs.Each.{any};
 ghost use Rattle.router_ports.specs.RouterWords.{row_in, mode_words, output_words, router_words, mode_of, owner_of, router_of};
 ghost use Rattle.router_ports.specs.RouterWords.{with_mode_in, with_output_in, with_store_in, without_front_in, with_behind_in};
 ghost use Rattle.router_ports.specs.Refusals.{is_owner, is_routed};
-ghost use Rattle.router_ports.specs.StateWords.{bad_mode, bad_owner, bad_input_in, bad_output_in, bad_port_in, bad_state};
+ghost use Rattle.router_ports.specs.StateWords.{bad_mode, bad_owner, bad_port_in, bad_state};
 
 use std::ops::Range;
 use store::Store;
@@ -419,16 +419,6 @@ fn bad_mode(words: &Words, i: usize, row: [u32; 3]) -> bool
     }
 }
 
-#[tactic(auto, using(crate::proofs::RowTestLaws::input_row))]
-fn bad_input(words: &Words, i: usize) -> bool
-    ensures { result ≡ (ltb i 11 && bad_input_in words.now i) }
-{
-    match INPUT_ROWS.read(words, i) {
-        Some(row) => bad_mode(words, i, row),
-        None => false,
-    }
-}
-
 // Whether the words of an output are those of no owner, or are refused as STATE.
 fn bad_owner(words: &Words, o: usize, row: [u32; 3]) -> bool
     ensures { result ≡ bad_owner (word_at row 0) (word_at row 1) (word_at row 2) (is_routed (mode_at (router_of words.now) (word_at row 1)) o) }
@@ -444,20 +434,27 @@ fn bad_owner(words: &Words, o: usize, row: [u32; 3]) -> bool
     }
 }
 
-#[tactic(auto, using(crate::proofs::RowTestLaws::output_row))]
-fn bad_output(words: &Words, o: usize) -> bool
-    ensures { result ≡ (ltb o 11 && bad_output_in words.now o) }
+// An idle input and a free output, which most are, are all zeros: they are told first, by one test.
+fn bad_rows(words: &Words, p: usize, input: [u32; 3], output: [u32; 3]) -> bool
+    ensures { result ≡ bad_mode (word_at input 0) (word_at input 1) (word_at input 2) (is_owner (output_at (router_of words.now) (word_at input 1)).owner p) || bad_owner (word_at output 0) (word_at output 1) (word_at output 2) (is_routed (mode_at (router_of words.now) (word_at output 1)) p) }
 {
-    match OUTPUT_ROWS.read(words, o) {
-        Some(row) => bad_owner(words, o, row),
-        None => false,
+    let [number, value, high] = input;
+    let [held, owner, last] = output;
+    if (number == 0) & (value == 0) & (high == 0) & (held == 0) & (owner == 0) {
+        LAST_PORT < last as usize
+    } else {
+        bad_mode(words, p, input) || bad_owner(words, p, output)
     }
 }
 
+#[tactic(auto, using(crate::proofs::RowTestLaws::port_rows))]
 fn bad_port(words: &Words, p: usize) -> bool
     ensures { result ≡ (ltb p 11 && bad_port_in words.now p) }
 {
-    bad_input(words, p) || bad_output(words, p)
+    match (INPUT_ROWS.read(words, p), OUTPUT_ROWS.read(words, p)) {
+        (Some(input), Some(output)) => bad_rows(words, p, input, output),
+        _ => false,
+    }
 }
 
 // 1 STATE: words that keep no router, a port number above 10 in them, an owner and a route that disagree, or an input
@@ -472,5 +469,6 @@ pub fn bad_state(words: &Words) -> bool
 pub fn bad_stores(words: &Words, size: u32) -> bool
     ensures { result ≡ any (λ k. bad_store size (store_at (router_of words.now) k)) 0 22 }
 {
-    (0..STORES).any(|k| store_at(words, k).is_bad(size as usize))
+    let (rows, _) = words[STORES_AT..].as_chunks::<STORE_WORDS>();
+    rows.iter().any(|&[front, len]| size <= front || size < len)
 }

@@ -1,8 +1,8 @@
 -- The candidates for an output, one by one: the k-th is the input k + 1 behind the last granted, at high priority below 11.
 -- Assumes nothing.
-use Rattle.std.specs.Prelude.{Option, None, Some}
+use Rattle.std.specs.Prelude.{Option, None, Some, is_some}
 use mathlib.Core.Path.{◌≡◌, refl, sym, ap, ◌∙◌}
-use mathlib.Core.Bool.{Bool, true, false, false≢true}
+use mathlib.Core.Bool.{Bool, true, false, not, false≢true}
 use mathlib.Core.List.{List, [], ◌∷◌, ◌++◌}
 use Prim.Native.Nat.{ℕ, zero, suc, ◌+◌, ◌-◌, ◌%◌, ◌≤◌, ◌<◌}
 use native.Mathlib.Nat.{add-zero, not-suc-le-zero}
@@ -23,7 +23,7 @@ use Rattle.router_ports.proofs.EachLaws.{none_at}
 use Rattle.router_ports.specs.RouterWords.{router_of}
 use Rattle.router_rounds.specs.Acts.{Acts, Tally}
 use Rattle.router_rounds.specs.Grants.{Candidate, cyclic, candidates, first_that}
-use Rattle.router_rounds.specs.Grants.{is_free, waits_for, fits, grants_to, grants, part2}
+use Rattle.router_rounds.specs.Grants.{is_free, waits_for, fits, chosen, granted, grants_to, grants, part2}
 use Rattle.router_rounds.specs.Addresses.{reads, if_idle, addresses, part1}
 use Rattle.router_rounds.specs.InWords.{stirs}
 
@@ -102,6 +102,25 @@ module _ (fits : Candidate → Bool) (last k : ℕ) where
   pub runs_out : 22 ≤ k → left k ≡ None
   unfolding first_that
   runs_out h = ap (first_that fits) (no_more last k h)
+
+pub free_as : (w : Option ℕ) (b : Bool) → is_some w ≡ b → is_free w ≡ not b
+free_as None b e = ap not e
+free_as (Some i) b e = ap not e
+
+-- what one output does: it keeps its owner, takes nobody, or takes the first that fits
+module _ {X : Type 0} (M : Acts X) (t : Tally X) (o : ℕ) where
+  pub keeps_owner : is_free (M.output t.now o).owner ≡ false → grants M t o ≡ t
+  unfolding grants
+  keeps_owner e = rw e
+
+  module _ (e : is_free (M.output t.now o).owner ≡ true) where
+    pub takes_nobody : chosen M t.now o ≡ None → grants M t o ≡ t
+    unfolding grants
+    takes_nobody n = rw (e, n)
+
+    pub takes : (i : ℕ) → chosen M t.now o ≡ Some i → grants M t o ≡ granted M t o i
+    unfolding grants
+    takes i n = rw (e, n)
 
 -- where no input waits, part 2 does nothing
 

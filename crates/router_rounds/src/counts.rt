@@ -6,7 +6,7 @@ ghost use Rattle.router_rounds.specs.InWords.{Words, tally, uncounted, counted, 
 use crate::Totals;
 
 // What is done for one port: nothing, a change, or a change that is counted.
-#[derive(Clone, Copy, Drop)]
+#[derive(Clone, Copy)]
 pub(crate) enum Deed {
     Nothing,
     Change,

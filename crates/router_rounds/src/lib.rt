@@ -20,13 +20,16 @@ mod quiet;
 
 // What a part of a round, or a run, has counted, and whether it changed anything: a run's last round. As wide as a
 // register, so that a count stays in one.
-#[derive(Clone, Copy, Drop)]
+#[derive(Clone, Copy, Debug, PartialEq, Eq)]
 pub struct Totals {
     pub rounds: usize,
     pub moved: usize,
     pub errors: usize,
     pub changed: bool,
 }
+
+// State and area stay two parameters in all parts: a struct that holds both as `&mut` would promise at each call that it
+// still holds the same two (`self.new.state.ghost_name ≡ self.old.state.ghost_name`), which is no plainer.
 
 // Parts 1 and 2. Where no input has an address to read and none waits, no port is looked at again.
 fn read_and_grant(state: &mut Words, area: &[u16], table: &Table) -> Totals

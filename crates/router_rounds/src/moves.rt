@@ -1,9 +1,8 @@
 // Part 3 of a round: routed inputs move one N-Char, spilling inputs discard one.
 ghost use Rattle.std.specs.Prelude.{◌≡◌, List, ℕ, ◌<◌};
-ghost use Rattle.router_rounds.specs.Moves.{frees, carries, moves, moves_one, spills, spills_one, sends, part3};
+ghost use Rattle.router_rounds.specs.Moves.{frees, carries, moves_one, spills, spills_one, sends, part3};
 ghost use Rattle.router_rounds.specs.InWords.{kept, in_words, tally, counted, added};
 ghost use Rattle.router_rounds.specs.declared.Totals.{Totals};
-ghost use Rattle.router_rounds.specs.declared.counts.Deed.TheVariants.{Move};
 
 use crate::Totals;
 use crate::counts::Deed;
@@ -18,7 +17,8 @@ fn free_both(state: &mut Words, i: usize, o: usize)
     router_ports::set_mode(state, i, Mode::Idle);
 }
 
-// The input's store is read first: the output's is another.
+// The input's store is read first: the output's is another. Read after the append, it makes a round of eleven streams up to
+// a fifth slower, and the bar leaves no such room (docs/SPEED.md).
 fn carry(state: &mut Words, area: &mut [u16], i: usize, o: usize, n: u16)
     requires { (i < 11) × (o < 11) }
     ensures { kept state.new area.new ≡ carries in_words (kept state.old area.old) i o n }
@@ -28,18 +28,7 @@ fn carry(state: &mut Words, area: &mut [u16], i: usize, o: usize, n: u16)
     router_ports::set_store(state, i, router_ports::drop_of(st, area, i));
 }
 
-#[tactic(auto, unfolding(crate::specs::Moves::moves, crate::specs::Acts::changed_to, crate::specs::Acts::count_moved))]
-fn moved(state: &mut Words, area: &mut [u16], i: usize, o: usize, n: u16)
-    requires { (i < 11) × (o < 11) }
-    ensures { (c : Totals) → tally (counted c Move) (kept state.new area.new) ≡ moves in_words (tally c (kept state.old area.old)) i o n }
-{
-    carry(state, area, i, o, n);
-    if vocabulary::is_end(n) {
-        free_both(state, i, o);
-    }
-}
-
-#[tactic(auto, unfolding(crate::specs::Moves::moves_one))]
+#[tactic(auto, unfolding(crate::specs::Moves::moves_one, crate::specs::Moves::moves, crate::specs::Acts::changed_to, crate::specs::Acts::count_moved))]
 fn move_one(state: &mut Words, area: &mut [u16], i: usize, o: usize) -> Deed
     requires { i < 11 }
     ensures { (c : Totals) → tally (counted c result) (kept state.new area.new) ≡ moves_one in_words (tally c (kept state.old area.old)) i o }
@@ -51,7 +40,10 @@ fn move_one(state: &mut Words, area: &mut [u16], i: usize, o: usize) -> Deed
         return Deed::Nothing;
     }
     let n = router_ports::front_at(state, area, i);
-    moved(state, area, i, o, n);
+    carry(state, area, i, o, n);
+    if vocabulary::is_end(n) {
+        free_both(state, i, o);
+    }
     Deed::Move
 }
 
@@ -77,9 +69,8 @@ fn spill_one(state: &mut Words, area: &[u16], i: usize) -> Deed
     Deed::Change
 }
 
-#[tactic(auto, unfolding(crate::specs::Moves::sends))]
+#[tactic(auto, using(crate::proofs::CarryLaws::routed_below), unfolding(crate::specs::Moves::sends))]
 fn send(state: &mut Words, area: &mut [u16], i: usize) -> Deed
-    requires { i < 11 }
     ensures { (c : Totals) → tally (counted c result) (kept state.new area.new) ≡ sends in_words (tally c (kept state.old area.old)) i }
 {
     match router_ports::mode_at(state, i) {
@@ -89,6 +80,8 @@ fn send(state: &mut Words, area: &mut [u16], i: usize) -> Deed
     }
 }
 
+// Its loop and that of part 1 stay two: over a closure that borrows state and area, one loop would ask of the closure's
+// calls what each now promises of its own.
 pub(crate) fn send_all(state: &mut Words, area: &mut [u16]) -> Totals
     ensures { (c : Totals) → tally (added c result) (kept state.new area.new) ≡ part3 in_words (tally c (kept state.old area.old)) }
 {

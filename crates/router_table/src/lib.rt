@@ -21,7 +21,7 @@ const HIGH_AT: u32 = 30;
 const INVALID_AT: u32 = 31;
 
 // Wanted ports, bit p for port p, at which priority, and whether the header is deleted.
-#[derive(Clone, Copy, Debug, Default, PartialEq, Eq, Drop)]
+#[derive(Clone, Copy, Debug, Default, PartialEq, Eq)]
 pub struct Direction {
     pub ports: u16,
     pub high: bool,
@@ -29,7 +29,7 @@ pub struct Direction {
 }
 
 // What the front N-Char of an idle input says.
-#[derive(Clone, Copy, Debug, PartialEq, Eq, Drop)]
+#[derive(Clone, Copy, Debug, PartialEq, Eq)]
 pub enum Heading {
     End,
     Nowhere,

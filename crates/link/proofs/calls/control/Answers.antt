@@ -4,7 +4,6 @@ use mathlib.Core.Path.{sym}
 use lib.ListN.{length}
 use Rattle.link.specs.Calls.{control_outcome}
 use Rattle.link.specs.LinkCalls.{control_left, end_of}
-use Rattle.link.proofs.LinkLaws.{state_small}
 use Rattle.link.proofs.RefusedLaws.{both}
 use Rattle.link.proofs.TestedLaws.{handed_on}
 use Rattle.link.proofs.CallLaws.{accepted_left, refused_as}
@@ -15,12 +14,6 @@ unfolding control_left control_outcome end_of
 returns-in_err-both c =
     let a = c.args in
     rw (handed_on _ c.from_residual.ensures) (refused_as a.words.now a.rx.now a.tx.now _ _ c.in_err-both.ensures)
-
-pub settle-requires : goal.settle-requires
-settle-requires c =
-    let a = c.args in
-    let passed = both a.words.now (length a.rx.now) (length a.tx.now) (sym c.in_ok-both.ensures) in
-    state_small _ _ (c.set_controls.ensures _ passed.0.own)
 
 pub returns : goal.returns
 unfolding control_left control_outcome end_of

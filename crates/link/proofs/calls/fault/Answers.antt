@@ -26,10 +26,6 @@ returns-in_err-try_from c =
     (fault_refused_as a.words.now a.rx.now a.tx.now a.kind _
     (past_both c.in_ok-both.ensures (stops CHAR _ _ refl c.in_err-try_from.ensures)))
 
-pub settle-requires : goal.settle-requires
-settle-requires c =
-    let a = c.args in (both a.words.now (length a.rx.now) (length a.tx.now) (sym c.in_ok-both.ensures)).0.state
-
 pub returns : goal.returns
 unfolding fault_left fault_outcome end_of
 returns c =

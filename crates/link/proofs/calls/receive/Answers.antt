@@ -6,7 +6,6 @@ use Rattle.vocabulary.specs.Refusals.{STATE, CHAR}
 use Rattle.vocabulary.specs.Tokens.{bad_char}
 use Rattle.words.specs.Arguments.{token_of}
 use Rattle.link.specs.InPlace.{heard_of}
-use Rattle.link.proofs.LinkLaws.{state_small}
 use Rattle.link.proofs.RefusedLaws.{receive, with_time}
 use Rattle.link.proofs.TestedLaws.{past, stops, answers, handed_on, past_both, both_stops}
 use Rattle.link.proofs.CallLaws.{receive_accepted, receive_refused_as}
@@ -36,16 +35,6 @@ returns-in_err-token c =
     (past STATE _ c.bad_time.ensures c.in_ok-refuse.ensures
     (past_both c.in_ok-both.ensures (stops CHAR _ _ refl c.in_err-token.ensures))
     ∙ with_time a.words.now (length a.rx.now) (length a.tx.now) a.time.now (token_of a.kind a.value)))
-
-pub settle-discarded-requires : goal.settle-discarded-requires
-settle-discarded-requires c =
-    let a = c.args in
-    let t = token_of a.kind a.value in
-    let passed = receive a.words.now (length a.rx.now) (length a.tx.now) a.time.now t
-    (sym (past STATE _ c.bad_time.ensures c.in_ok-refuse.ensures
-    (past_both c.in_ok-both.ensures (past CHAR _ refl c.in_ok-token.ensures refl))
-    ∙ with_time a.words.now (length a.rx.now) (length a.tx.now) a.time.now t)) in
-    state_small _ _ (c.token-heard.ensures passed.1 _ passed.0.own passed.0.good).1
 
 pub returns : goal.returns
 unfolding heard_of

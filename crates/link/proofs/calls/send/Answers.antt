@@ -3,7 +3,6 @@
 use mathlib.Core.Path.{refl, sym}
 use lib.ListN.{length}
 use Rattle.link.specs.Send.{sending}
-use Rattle.link.proofs.LinkLaws.{state_small}
 use Rattle.link.proofs.RefusedLaws.{both}
 use Rattle.link.proofs.TestedLaws.{handed_on}
 use Rattle.link.proofs.CallLaws.{send_accepted, send_refused_as}
@@ -13,12 +12,6 @@ pub returns-in_err-both : goal.returns-in_err-both
 returns-in_err-both c =
     let a = c.args in
     rw (handed_on _ c.from_residual.ensures) (send_refused_as a.words.now a.rx.now a.tx.now _ c.in_err-both.ensures)
-
-pub settle-discarded-requires : goal.settle-discarded-requires
-settle-discarded-requires c =
-    let a = c.args in
-    let passed = both a.words.now (length a.rx.now) (length a.tx.now) (sym c.in_ok-both.ensures) in
-    state_small _ _ (c.book.ensures passed.2 _ passed.0.own passed.0.good)
 
 pub returns : goal.returns
 unfolding sending

@@ -4,7 +4,6 @@ use mathlib.Core.Path.{sym}
 use lib.ListN.{length}
 use Rattle.link.specs.Calls.{tick_outcome}
 use Rattle.link.specs.LinkCalls.{tick_left, end_of}
-use Rattle.link.proofs.LinkLaws.{state_small}
 use Rattle.link.proofs.RefusedLaws.{both}
 use Rattle.link.proofs.TestedLaws.{handed_on}
 use Rattle.link.proofs.CallLaws.{accepted_left, refused_as}
@@ -19,12 +18,6 @@ returns-in_err-both c =
 pub count-requires : goal.count-requires
 count-requires c =
     let a = c.args in (both a.words.now (length a.rx.now) (length a.tx.now) (sym c.in_ok-both.ensures)).0.timer
-
-pub settle-requires : goal.settle-requires
-settle-requires c =
-    let a = c.args in
-    let passed = both a.words.now (length a.rx.now) (length a.tx.now) (sym c.in_ok-both.ensures) in
-    state_small _ _ (c.count.ensures _ passed.0.own)
 
 pub returns : goal.returns
 unfolding tick_left tick_outcome end_of

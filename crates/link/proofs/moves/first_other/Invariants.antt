@@ -1,6 +1,6 @@
 -- The first of the columns left is the first of all.
 -- Assumes nothing.
-use Rattle.std.proofs.Common.{ℕ, ◌≡◌, ◌-◌}
+use Rattle.std.proofs.Common.{◌≡◌, ◌-◌}
 use Rattle.link.specs.Records.{Link}
 use Rattle.link.specs.Moves.{conditions}
 use Rattle.link.specs.Table.{first_from}

@@ -1,8 +1,7 @@
 -- `link::moves::next_state` meets its contract: what came moves no state, so the other columns are looked at.
 -- Assumes nothing.
-use Rattle.std.proofs.Common.{rules, sym, ◌∙◌, true, ◌≡◌}
-use Rattle.link.specs.Moves.{conditions, is_state}
-use Rattle.link.specs.Table.{table_at}
+use Rattle.std.proofs.Common.{rules, sym, ◌∙◌}
+use Rattle.link.specs.Moves.{conditions}
 use Rattle.link.proofs.TableLaws.{same_is_state, event_stays}
 use Rattle.link.proofs.moves.next_state.Goals as goal
 

@@ -1,10 +1,6 @@
 -- `link::recovery::reset_all` meets its contract: each step hands the end that it leaves to the next.
 -- Assumes nothing.
-use Rattle.std.proofs.Common.{length}
-use Rattle.vocabulary.specs.Choice.{pick}
-use Rattle.vocabulary.specs.NChars.{EEP}
 use Rattle.store.specs.StoreWords.{store_of}
-use Rattle.store.specs.Changes.{fresh_store, put_store}
 use Rattle.link.specs.Ends.{settled_at, with_marks, with_rx, with_tx, mark_stored, mark_sent, mark_discarding}
 use Rattle.link.specs.Recovery.{cleared}
 use Rattle.link.specs.Reset.{emptied, resets}
