@@ -58,7 +58,7 @@ pub(crate) fn offer_code(words: &mut Words, v: u8)
     ensures { Writes words.old (λ (l : Link). offers l v) words.new }
 {
     words[OFFERED] = 1;
-    words[CODE] = v as u32;
+    words[CODE] = u32::from(v);
 }
 
 pub(crate) fn set_controls(words: &mut Words, disabled: u32, start: u32, auto: u32)

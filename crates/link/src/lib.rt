@@ -75,7 +75,8 @@ impl TryFrom<u32> for FaultKind {
     }
 }
 
-// The two counters are types of their own, so that neither can be passed for the other.
+// The two counters are types of their own, so that neither can be passed for the other. What they share is one line each: a
+// trait over both would say it in more.
 #[derive(Clone, Copy, Debug, PartialEq, Eq)]
 pub struct Held(pub u8);
 
@@ -84,7 +85,7 @@ pub struct GivenOut(pub u8);
 
 // What a received token comes to, beside its effect on the words: the event that the table sees, the time record after it,
 // and whether it gives a tick out.
-#[derive(Clone, Copy)]
+#[derive(Clone, Copy, Debug, PartialEq, Eq)]
 pub struct Heard {
     pub event: Event,
     pub time: Time,

@@ -36,7 +36,8 @@ fn takes_fct(words: &Words) -> bool
 
 fn got_fct(words: &mut Words) -> Event
     ensures { (l : Link) (time : Time) → words.old ≡ link_words l → Good l →
-        (record { event = result; time = time; tick = false } ≡ heard_of (fct_effect l time)) × (words.new ≡ link_words (fct_effect l time).link) }
+        (record { event = result; time = time; tick = false } ≡ heard_of (fct_effect l time))
+        × (words.new ≡ link_words (fct_effect l time).link) }
 {
     if takes_fct(words) {
         let held = fields::held_in(words);

@@ -15,14 +15,14 @@ ghost use Rattle.link.specs.InPlace.{Reads};
 
 use crate::fields::{
     AUTO, CODE, DISABLED, DISCARDING, GIVEN_OUT, GOT_NULL, HELD, NULL_SENT, OFFERED, PUT, RX, SENT,
-    START, STATE, STORED, TAKEN, TIMER, TX, Words,
+    START, STATE, STORED, TAKEN, TIMER, TX, TimeWords, Words,
 };
 use crate::{LinkState, fields, moves};
 
 fn no_state(word: u32) -> bool
     ensures { result ≡ not (eqb word (state_number (state_of word))) }
 {
-    5 < word
+    u32::from(LinkState::Run) < word
 }
 
 fn no_truth(word: u32) -> bool
@@ -44,8 +44,7 @@ fn no_offer(offered: u32, code: u32) -> bool
 
 // Whether the words are no end's: a number that no state, truth or waiting Time-Code has.
 #[tactic(auto, using(crate::proofs::LinkLaws::no_link))]
-pub(crate) fn no_link(words: &[u32]) -> bool
-    requires { length words.now ≡ 20 }
+pub(crate) fn no_link(words: &Words) -> bool
     ensures { result ≡ not (is_link words.now) }
 {
     let last = no_truth(words[DISCARDING]) | no_offer(words[OFFERED], words[CODE]);
@@ -137,8 +136,7 @@ pub(crate) fn bad_stores(words: &Words, rx: usize, tx: usize) -> bool
 
 // A time record's words: a count up to 63, and a truth.
 #[tactic(auto, using(crate::proofs::LinkLaws::no_time), unfolding(crate::specs::LinkWords::time_of))]
-pub(crate) fn bad_time(time: &[u32]) -> bool
-    requires { length time.now ≡ 2 }
+pub(crate) fn bad_time(time: &TimeWords) -> bool
     ensures { result ≡ (not (is_time time.now) || bad_time (time_of time.now)) }
 {
     no_truth(time[1]) | (63 < time[0])

@@ -29,7 +29,11 @@ told read n yea nay zero number = at (eqb n 0) refl
     at false e = number
 
 pub refused_exactly : RefusedExactly
-unfolding encode_answer sent encode_refused bit_answer tick_answer decode_accepted decode_refused refused_with answered accepted refused tick_outcome fault_outcome control_outcome reset_outcome dispatch_of dispatched send_refused send_outcome receipt_of received receive_refused token_accepted receive_outcome put_answer take_accepted take_refused take_answer offer_accepted offer_answer puts took_one router_told runs reads_row held_through held_refused still_held
+unfolding
+    encode_answer sent encode_refused bit_answer tick_answer decode_accepted decode_refused refused_with answered accepted refused
+    tick_outcome fault_outcome control_outcome reset_outcome dispatch_of dispatched send_refused send_outcome receipt_of received
+    receive_refused token_accepted receive_outcome put_answer take_accepted take_refused take_answer offer_accepted offer_answer
+    puts took_one takes router_told runs reads_row held_through held_refused still_held
 refused_exactly =
     record {
       encode = λ e t. record { first = told (λ (a : Encoded). a.refusal) _ _ _ refl refl; ordered = refl };

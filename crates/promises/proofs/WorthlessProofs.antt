@@ -32,21 +32,18 @@ use Rattle.link.specs.Calls.{refused_with, answered, accepted, refused, tick_out
 use Rattle.link.specs.Calls.{reset_outcome, dispatch_of, dispatched, send_refused, send_outcome, receipt_of, received}
 use Rattle.link.specs.Calls.{receive_refused, token_accepted, receive_outcome, put_answer, put_places_after, take_accepted}
 use Rattle.link.specs.Calls.{take_refused, take_answer, offer_accepted, offer_answer}
-use Rattle.link.specs.Credit.{with_held, with_given}
-use Rattle.link.specs.Ends.{settled_at, no_credit, fresh_link, with_stage, with_controls, with_credit, with_marks}
-use Rattle.link.specs.Ends.{with_offer, with_rx, with_tx, mark_stored, mark_sent, mark_taken, mark_put, mark_discarding}
-use Rattle.link.specs.Hosts.{put_discarded, put_stored, puts, puts_places, takes, offers}
+use Rattle.link.specs.Ends.{fresh_link}
+use Rattle.link.specs.Hosts.{puts, puts_places}
 use Rattle.link.specs.LinkCalls.{no_link, end_of, answer_left, tick_left, reset_left, as_answer, numbered_fault, fault_left}
-use Rattle.link.specs.LinkCalls.{controls_of, control_left, dispatch_left, send_left, receipt_left, no_receipt}
+use Rattle.link.specs.LinkCalls.{control_left, dispatch_left, send_left, receipt_left, no_receipt}
 use Rattle.link.specs.LinkCalls.{receive_left, put_done, put_left, taken, take_left, offered, offer_left}
 use Rattle.link.specs.LinkWords.{link_words, stage_in, controls_in, credit_in, marks_in, link_of, time_of}
-use Rattle.link.specs.Moves.{conditions, entered}
-use Rattle.link.specs.Received.{effect, got_null, fct_effect, stored_link, n_char_effect, time_code_effect, token_effect}
+use Rattle.link.specs.Received.{fct_effect, n_char_effect, time_code_effect, token_effect}
 use Rattle.link.specs.Received.{token_places, counted}
-use Rattle.link.specs.Recovery.{cleared, closed_link, closed_places, discarded_link, rest_discarded, goes_down, moves_to}
+use Rattle.link.specs.Recovery.{closed_link, closed_places, rest_discarded, goes_down, moves_to}
 use Rattle.link.specs.Recovery.{settles}
-use Rattle.link.specs.Reset.{emptied, emptied_places, resets}
-use Rattle.link.specs.Send.{null_sent, n_char_sent, sending}
+use Rattle.link.specs.Reset.{emptied_places, resets}
+use Rattle.link.specs.Send.{sending}
 use Rattle.link.specs.Table.{first_from}
 use Rattle.router_table.specs.Headings.{to_port, by_row, row_heading, address_heading, heading}
 use Rattle.router_table.specs.Rows.{fresh_table, with_row}
@@ -71,7 +68,7 @@ use Rattle.promises.specs.Worthless.{RefusingAll, SaysOnlyNull, bit14, StaysInEr
 use Rattle.promises.specs.Worthless.{to_output3, Inventing, WorthlessBuildsShutOut, null_for, WorthlessBuilds}
 
 refusing_all : RefusingAll
-unfolding token_of same fresh_store put_store put_places dropped found_in found through_end holds_end standing store_of fresh_time time_after encode_refused encode_answer decode_refused decode_accepted bit_answer tick_answer goes_on stops hunts flagged data_bit silence waiting_of decoder_from decoder_of is_good_as is_good decoded no_decoder bit_left decoder_tick_left fresh_encoder sent encoder_of encoded no_encoder encode_left refused_with answered accepted refused tick_outcome fault_outcome control_outcome reset_outcome dispatch_of dispatched send_refused send_outcome receipt_of received receive_refused token_accepted receive_outcome put_answer put_places_after take_accepted take_refused take_answer offer_accepted offer_answer fresh_link puts puts_places no_link end_of answer_left tick_left reset_left as_answer numbered_fault fault_left control_left dispatch_left send_left receipt_left no_receipt receive_left put_done put_left taken take_left offered offer_left link_words stage_in controls_in credit_in marks_in link_of time_of fct_effect n_char_effect time_code_effect token_effect token_places counted closed_link closed_places rest_discarded goes_down moves_to settles emptied_places resets sending first_from to_port by_row row_heading address_heading heading fresh_table with_row each any without_front with_behind fresh_router with_mode with_output bad_ports bad_stores listed router_words wanted_of mode_of input_in output_in router_of with_mode_in with_output_in with_store_in without_front_in with_behind_in changed_to count_moved count_error count_round waits reads addresses part1 cyclic candidates first_that granted grants part2 frees carries moves moves_one spills spills_one sends part3 begun round rounds router_puts took_one router_takes told runs writes_row reads_row set_of wanted_by unread sets_of nothing_held held_through held_refused still_held held_words asked held_left no_router puts_router router_put_left took router_take_left ran run_left table_left row_left
+unfolding token_of same fresh_store put_store put_places dropped found_in found through_end holds_end standing store_of fresh_time time_after encode_refused encode_answer decode_refused decode_accepted bit_answer tick_answer goes_on stops hunts flagged data_bit silence waiting_of decoder_from decoder_of is_good_as is_good decoded no_decoder bit_left decoder_tick_left fresh_encoder sent encoder_of encoded no_encoder encode_left refused_with answered accepted refused tick_outcome fault_outcome control_outcome reset_outcome dispatch_of dispatched send_refused send_outcome receipt_of received receive_refused token_accepted receive_outcome put_answer put_places_after take_accepted take_refused take_answer offer_accepted offer_answer fresh_link puts puts_places no_link end_of answer_left tick_left reset_left as_answer numbered_fault fault_left control_left dispatch_left send_left receipt_left no_receipt receive_left put_done put_left taken take_left offered offer_left link_words stage_in controls_in credit_in marks_in link_of time_of fct_effect n_char_effect time_code_effect token_effect token_places counted closed_link closed_places rest_discarded goes_down moves_to settles emptied_places resets sending first_from to_port by_row row_heading address_heading heading fresh_table with_row each any without_front with_behind fresh_router with_mode with_output with_store bad_ports bad_stores listed router_words wanted_of mode_of input_in output_in router_of with_mode_in with_output_in with_store_in without_front_in with_behind_in changed_to count_moved count_error count_round waits reads addresses part1 cyclic candidates first_that granted grants part2 frees carries moves moves_one spills spills_one sends part3 begun round rounds router_puts took_one router_takes told runs writes_row reads_row set_of wanted_by unread sets_of nothing_held held_through held_refused still_held held_words asked held_left no_router puts_router router_put_left took router_take_left ran run_left table_left row_left
 refusing_all =
     record {
       encode = λ build refuses κs kept. refuses κs _ (ap (λ (left : Left). left.refusal) kept);
@@ -95,11 +92,7 @@ refusing_all =
     }
 
 saying_null : (build : Build Bit) → SaysOnlyNull build → BreaksAt Bit bit14 build
-unfolding
-    token_of same fresh_store put_store put_places dropped found_in found through_end holds_end standing store_of fresh_time
-    time_after encode_refused encode_answer decode_refused decode_accepted bit_answer tick_answer goes_on stops hunts flagged
-    data_bit silence waiting_of decoder_from decoder_of is_good_as is_good decoded no_decoder bit_left decoder_tick_left
-    fresh_encoder sent encoder_of encoded no_encoder encode_left
+unfolding token_of same fresh_store put_store put_places dropped found_in found through_end holds_end standing store_of fresh_time time_after encode_refused encode_answer decode_refused decode_accepted bit_answer tick_answer goes_on stops hunts flagged data_bit silence waiting_of decoder_from decoder_of is_good_as is_good decoded no_decoder bit_left decoder_tick_left fresh_encoder sent encoder_of encoded no_encoder encode_left
 saying_null build null κs kept =
     let kind = ap (λ (left : Left). word_at left.out 0) kept in
     absurd (omega (arith, kind, null κs (bit14 κs) (omega (arith, kind)) (omega (arith, kind))))
@@ -110,7 +103,7 @@ staying build stays κs kept =
     absurd (omega (arith, ap (λ (left : LinkLeft). word_at left.state 0) kept, stays κs (tick64 κs) refl))
 
 inventing : Inventing
-unfolding token_of same fresh_store put_store put_places dropped found_in found through_end holds_end standing store_of fresh_time time_after encode_refused encode_answer decode_refused decode_accepted bit_answer tick_answer goes_on stops hunts flagged data_bit silence waiting_of decoder_from decoder_of is_good_as is_good decoded no_decoder bit_left decoder_tick_left fresh_encoder sent encoder_of encoded no_encoder encode_left refused_with answered accepted refused tick_outcome fault_outcome control_outcome reset_outcome dispatch_of dispatched send_refused send_outcome receipt_of received receive_refused token_accepted receive_outcome put_answer put_places_after take_accepted take_refused take_answer offer_accepted offer_answer fresh_link puts puts_places no_link end_of answer_left tick_left reset_left as_answer numbered_fault fault_left control_left dispatch_left send_left receipt_left no_receipt receive_left put_done put_left taken take_left offered offer_left link_words stage_in controls_in credit_in marks_in link_of time_of fct_effect n_char_effect time_code_effect token_effect token_places counted closed_link closed_places rest_discarded goes_down moves_to settles emptied_places resets sending first_from to_port by_row row_heading address_heading heading fresh_table with_row each any without_front with_behind fresh_router with_mode with_output bad_ports bad_stores listed router_words wanted_of mode_of input_in output_in router_of with_mode_in with_output_in with_store_in without_front_in with_behind_in changed_to count_moved count_error count_round waits reads addresses part1 cyclic candidates first_that granted grants part2 frees carries moves moves_one spills spills_one sends part3 begun round rounds router_puts took_one router_takes told runs writes_row reads_row set_of wanted_by unread sets_of nothing_held held_through held_refused still_held held_words asked held_left no_router puts_router router_put_left took router_take_left ran run_left table_left row_left
+unfolding token_of same fresh_store put_store put_places dropped found_in found through_end holds_end standing store_of fresh_time time_after encode_refused encode_answer decode_refused decode_accepted bit_answer tick_answer goes_on stops hunts flagged data_bit silence waiting_of decoder_from decoder_of is_good_as is_good decoded no_decoder bit_left decoder_tick_left fresh_encoder sent encoder_of encoded no_encoder encode_left refused_with answered accepted refused tick_outcome fault_outcome control_outcome reset_outcome dispatch_of dispatched send_refused send_outcome receipt_of received receive_refused token_accepted receive_outcome put_answer put_places_after take_accepted take_refused take_answer offer_accepted offer_answer fresh_link puts puts_places no_link end_of answer_left tick_left reset_left as_answer numbered_fault fault_left control_left dispatch_left send_left receipt_left no_receipt receive_left put_done put_left taken take_left offered offer_left link_words stage_in controls_in credit_in marks_in link_of time_of fct_effect n_char_effect time_code_effect token_effect token_places counted closed_link closed_places rest_discarded goes_down moves_to settles emptied_places resets sending first_from to_port by_row row_heading address_heading heading fresh_table with_row each any without_front with_behind fresh_router with_mode with_output with_store bad_ports bad_stores listed router_words wanted_of mode_of input_in output_in router_of with_mode_in with_output_in with_store_in without_front_in with_behind_in changed_to count_moved count_error count_round waits reads addresses part1 cyclic candidates first_that granted grants part2 frees carries moves moves_one spills spills_one sends part3 begun round rounds router_puts took_one router_takes told runs writes_row reads_row set_of wanted_by unread sets_of nothing_held held_through held_refused still_held held_words asked held_left no_router puts_router router_put_left took router_take_left ran run_left table_left row_left
 inventing =
     record {
       put = λ build other κs kept. other κs (ap (λ (left : LinkLeft). word_at left.out 0) kept);
@@ -122,7 +115,7 @@ inventing =
     }
 
 idle_later : (build : Build RouterRun) → IdleLater build → BreaksAt RouterRun to_output3 build
-unfolding token_of same fresh_store put_store put_places dropped found_in found through_end holds_end standing store_of to_port by_row row_heading address_heading heading fresh_table with_row each any without_front with_behind fresh_router with_mode with_output bad_ports bad_stores listed router_words wanted_of mode_of input_in output_in router_of with_mode_in with_output_in with_store_in without_front_in with_behind_in changed_to count_moved count_error count_round waits reads addresses part1 cyclic candidates first_that granted grants part2 frees carries moves moves_one spills spills_one sends part3 begun round rounds router_puts took_one router_takes told runs writes_row reads_row set_of wanted_by unread sets_of nothing_held held_through held_refused still_held held_words asked held_left no_router puts_router router_put_left took router_take_left ran run_left table_left row_left
+unfolding token_of same fresh_store put_store put_places dropped found_in found through_end holds_end standing store_of to_port by_row row_heading address_heading heading fresh_table with_row each any without_front with_behind fresh_router with_mode with_output with_store bad_ports bad_stores listed router_words wanted_of mode_of input_in output_in router_of with_mode_in with_output_in with_store_in without_front_in with_behind_in changed_to count_moved count_error count_round waits reads addresses part1 cyclic candidates first_that granted grants part2 frees carries moves moves_one spills spills_one sends part3 begun round rounds router_puts took_one router_takes told runs writes_row reads_row set_of wanted_by unread sets_of nothing_held held_through held_refused still_held held_words asked held_left no_router puts_router router_put_left took router_take_left ran run_left table_left row_left
 idle_later build idles κs kept =
     absurd (omega (
       arith,
