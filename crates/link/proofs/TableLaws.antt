@@ -9,11 +9,15 @@ use native.Mathlib.Omega.{arith}
 use lib.Dec.{T, eqb→eq}
 use lib.ListN.{get_or}
 use denote.Enum.Bare.{sameb}
+use denote.Enum.Declared.{tag_of}
 use Rattle.link.specs.contracts.LinkState.{the_type}
+use Rattle.link.specs.contracts.moves.Condition.{the_type as waits_type}
+use Rattle.link.specs.declared.moves.Condition.{Condition}
+use Rattle.link.specs.declared.moves.Condition.TheVariants.{Enabled, Exchanged, Disabled, AtLimit}
 use Rattle.vocabulary.specs.Choice.{pick}
 use Rattle.vocabulary.proofs.Below.{below, every, same, same_eq, each, each_at}
 use Rattle.link.specs.Moves.{state_number, is_state, event_number, Conditions, state_after}
-use Rattle.link.specs.Table.{table_at, states, state_of, column_holds, first_from, looked_up, SaysMoves, FindsFirstThatFits}
+use Rattle.link.specs.Table.{table_at, states, state_of, condition_number, column_holds, first_from, looked_up, SaysMoves, FindsFirstThatFits}
 use Rattle.link.specs.declared.LinkState.{LinkState}
 use Rattle.link.specs.declared.LinkState.TheVariants.{ErrorReset, ErrorWait, Ready, Started, Connecting, Run}
 use Rattle.link.specs.declared.Event.{Event}
@@ -180,3 +184,21 @@ past_the_others (suc (suc (suc zero))) h = absurd (omega arith)
 past_the_others (suc (suc (suc (suc zero)))) h = absurd (omega arith)
 past_the_others (suc (suc (suc (suc (suc zero))))) h = refl
 past_the_others (suc (suc (suc (suc (suc (suc n)))))) h = refl
+
+-- the conditions in the order in which they are looked at, by their columns
+abbrev waits : List Condition
+waits = Enabled ∷ Exchanged ∷ Disabled ∷ AtLimit ∷ []
+
+pub numbered : (n : ℕ) → n < 4 → condition_number (get_or waits n Enabled) ≡ 6 + n
+numbered zero h = refl
+numbered (suc zero) h = refl
+numbered (suc (suc zero)) h = refl
+numbered (suc (suc (suc zero))) h = refl
+numbered (suc (suc (suc (suc n)))) h = absurd (omega arith)
+
+pub tagged : (n : ℕ) → n < 4 → tag_of waits_type (get_or waits n Enabled) + 6 ≡ 6 + n
+tagged zero h = refl
+tagged (suc zero) h = refl
+tagged (suc (suc zero)) h = refl
+tagged (suc (suc (suc zero))) h = refl
+tagged (suc (suc (suc (suc n)))) h = absurd (omega arith)

@@ -8,6 +8,8 @@ use Rattle.link.specs.Moves.{state_number, Move, row, Conditions, state_after}
 use Rattle.link.specs.declared.LinkState.{LinkState}
 use Rattle.link.specs.declared.LinkState.TheVariants.{ErrorReset, ErrorWait, Ready, Started, Connecting, Run}
 use Rattle.link.specs.declared.Event.{Event}
+use Rattle.link.specs.declared.moves.Condition.{Condition}
+use Rattle.link.specs.declared.moves.Condition.TheVariants.{Enabled, Exchanged, Disabled, AtLimit}
 
 -- the column of what a row may ask for
 abbrev pub column_of : When → ℕ
@@ -37,6 +39,13 @@ abbrev pub SaysMoves : List (List LinkState) → Type 0
 SaysMoves columns =
     (s : LinkState) (column : ℕ) → column < 10 →
     get_or (get_or columns column []) (state_number s) ErrorReset ≡ table_at s column
+
+-- the columns behind those of events
+abbrev pub condition_number : Condition → ℕ
+condition_number Enabled = 6
+condition_number Exchanged = 7
+condition_number Disabled = 8
+condition_number AtLimit = 9
 
 -- whether one of the columns behind those of events holds
 abbrev pub column_holds : Conditions → ℕ → Bool

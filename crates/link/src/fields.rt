@@ -60,14 +60,10 @@ pub(crate) const OFFERED: usize = 14;
 
 pub(crate) const CODE: usize = 15;
 
-// The two stores.
+// The two stores, each in two words.
 pub(crate) const RX: usize = 16;
 
-pub(crate) const RX_LEN: usize = 17;
-
 pub(crate) const TX: usize = 18;
-
-pub(crate) const TX_LEN: usize = 19;
 
 // A truth is written only where it changes: words that are tested together are loaded together, and that load waits for
 // any store to one of them.

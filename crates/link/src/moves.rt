@@ -4,12 +4,28 @@
 ghost use Rattle.std.specs.Prelude.{◌≡◌, ◌<◌, ◌&&◌, leb};
 ghost use Rattle.link.specs.Records.{Link};
 ghost use Rattle.link.specs.Moves.{limit_of, counts_ticks, enabled_by, conditions, next_state, entered};
-ghost use Rattle.link.specs.Table.{table_at, column_holds, first_from};
+ghost use Rattle.link.specs.Table.{table_at, condition_number, column_holds, first_from};
 ghost use Rattle.link.specs.InPlace.{Reads, Writes};
 
 use crate::LinkState::{Connecting, ErrorReset, ErrorWait, Ready, Run, Started};
 use crate::fields::{AUTO, DISABLED, GOT_NULL, NULL_SENT, START, STATE, TIMER, Words};
 use crate::{Event, LinkState, fields};
+
+// What a state waits for, by its column of the table.
+#[derive(Clone, Copy, Debug, PartialEq, Eq)]
+enum Condition {
+    Enabled = 6,
+    Exchanged,
+    Disabled,
+    AtLimit,
+}
+
+const CONDITIONS: [Condition; 4] = [
+    Condition::Enabled,
+    Condition::Exchanged,
+    Condition::Disabled,
+    Condition::AtLimit,
+];
 
 // The next state: a column for each event, then for each condition, and in it a cell for each state. A state in its own cell
 // is no move.
@@ -83,14 +99,14 @@ fn at_limit(words: &Words) -> bool
     limit(fields::state_in(words)) <= words[TIMER]
 }
 
-fn column_holds(words: &Words, column: usize) -> bool
-    ensures { Reads words.now (λ (l : Link). column_holds (conditions l) column) result }
+fn holds(words: &Words, condition: Condition) -> bool
+    ensures { Reads words.now (λ (l : Link). column_holds (conditions l) (condition_number condition)) result }
 {
-    match column {
-        6 => is_enabled(words),
-        7 => exchanged(words),
-        8 => words::truth(words[DISABLED]),
-        _ => at_limit(words),
+    match condition {
+        Condition::Enabled => is_enabled(words),
+        Condition::Exchanged => exchanged(words),
+        Condition::Disabled => words::truth(words[DISABLED]),
+        Condition::AtLimit => at_limit(words),
     }
 }
 
@@ -101,15 +117,15 @@ fn look_up(column: usize, state: LinkState) -> LinkState
     NEXT[column][state as usize]
 }
 
-// Beside what came, the first column that holds and whose cell is not the state itself.
+// Beside what came, the first condition that holds and whose cell is not the state itself.
 #[tactic(auto, using(crate::proofs::TableLaws::first_done))]
 fn first_other(words: &Words) -> LinkState
     ensures { Reads words.now (λ (l : Link). first_from l.stage.state (conditions l) 6 4) result }
 {
     let state = fields::state_in(words);
-    for column in 6..10 {
-        let to = look_up(column, state);
-        if to != state && column_holds(words, column) {
+    for condition in CONDITIONS {
+        let to = look_up(condition as usize, state);
+        if to != state && holds(words, condition) {
             return to;
         }
     }
