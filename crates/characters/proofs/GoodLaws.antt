@@ -1,7 +1,7 @@
 -- Seven words are those of a decoder: the tests that a phase leaves of all say how large each word may be.
 -- Assumes nothing.
 use Prim.Native.Nat.{ℕ, zero, suc}
-use mathlib.Core.Path.{◌≡◌, refl, sym, subst, ◌∙◌}
+use mathlib.Core.Path.{◌≡◌, refl, sym, ap, subst, ◌∙◌}
 use mathlib.Core.Bool.{Bool, true, false, not, ◌&&◌, ◌||◌}
 use mathlib.Core.Logic.{◌⊎◌, inl, inr}
 use mathlib.Core.List.{List, [], ◌∷◌}
@@ -13,6 +13,7 @@ use Rattle.words.specs.Words.{same, word_at, byte, truth, truth_word}
 use Rattle.words.proofs.NumberLaws.{byte_back}
 use Rattle.characters.specs.Refusals.{bad_waiting}
 use Rattle.characters.specs.DecoderWords.{waiting_number, waiting_value, waiting_of, most_value, within}
+use Rattle.characters.specs.declared.reports.Waiting.{Waiting}
 use Rattle.characters.specs.declared.phases.Phase as numbers
 use Rattle.characters.specs.declared.phases.Phase.TheVariants as the
 use Rattle.characters.specs.DecoderWords.{phase_number, decoder_from, decoder_of, is_good_as, is_good}
@@ -113,45 +114,53 @@ regrouped_waiting true false n x rest number value ok h = sym (and_false (number
 regrouped_waiting true true n x rest number value ok h = rw (together n x rest, h) (behind number value ok rest)
 
 -- of a decoder that has heard a bit: the tests of its words, and those of the words and values that are to be there
-module _ (s n x e f p n' x' e' f' p' : ℕ) where
-  heard : (tn tx te tf tp tq bad : Bool) → tn ≡ eqb n n' → tx ≡ eqb x x' → te ≡ eqb e e' → tf ≡ eqb f f' →
-      tp && tq ≡ eqb p p' && not bad →
-      (leb s 8 && (tn && (tx && (te && (tf && (tp && true)))))) && tq
-      ≡ (eqb s (byte s) && (eqb n n' && (eqb x x' && (eqb e e' && (eqb f f' && (eqb p p' && true)))))) &&
-      not (ltb 8 (byte s) || bad)
-  heard tn tx te tf tp tq bad hn hx he hf hp =
-      rw (silence_test s, neither (ltb 8 (byte s)) bad, hn, hx, he, hf)
-      (regrouped (eqb s (byte s)) (not (ltb 8 (byte s))) (eqb n n') (eqb x x') (eqb e e') (eqb f f') tp tq (eqb p p')
-      (not bad) hp)
+heard : (s : ℕ) (tp tq p bad : Bool) {tn n tx x te e tf f : Bool} → tn ≡ n → tx ≡ x → te ≡ e → tf ≡ f →
+    tp && tq ≡ p && not bad →
+    (leb s 8 && (tn && (tx && (te && (tf && (tp && true)))))) && tq
+    ≡ (eqb s (byte s) && (n && (x && (e && (f && (p && true)))))) && not (ltb 8 (byte s) || bad)
+heard s tp tq p bad {n} {x} {e} {f} hn hx he hf hp =
+    rw (silence_test s, neither (ltb 8 (byte s)) bad, hn, hx, he, hf)
+    (regrouped (eqb s (byte s)) (not (ltb 8 (byte s))) n x e f tp tq p (not bad) hp)
 
-  waited : (tn tx te tf tp bad : Bool) → tn && tx ≡ eqb n n' && (eqb x x' && not bad) → te ≡ eqb e e' → tf ≡ eqb f f' →
-      tp ≡ eqb p p' →
-      leb s 8 && (tn && (tx && (te && (tf && (tp && true)))))
-      ≡ (eqb s (byte s) && (eqb n n' && (eqb x x' && (eqb e e' && (eqb f f' && (eqb p p' && true)))))) &&
-      not (ltb 8 (byte s) || bad)
-  waited tn tx te tf tp bad h he hf hp =
-      rw (silence_test s, neither (ltb 8 (byte s)) bad, he, hf, hp)
-      (regrouped_waiting (eqb s (byte s)) (not (ltb 8 (byte s))) tn tx (eqb e e' && (eqb f f' && (eqb p p' && true)))
-      (eqb n n') (eqb x x') (not bad) h)
+-- the same where there is no such value
+plain : (s : ℕ) {tn n tx x te e tf f tp p : Bool} → tn ≡ n → tx ≡ x → te ≡ e → tf ≡ f → tp ≡ p →
+    leb s 8 && (tn && (tx && (te && (tf && (tp && true)))))
+    ≡ (eqb s (byte s) && (n && (x && (e && (f && (p && true)))))) && not (ltb 8 (byte s) || false)
+plain s {tp} {p} hn hx he hf hp =
+    sym (and_true _) ∙ heard s tp true p false hn hx he hf (ap (λ (b : Bool). b && true) hp)
+
+waited : (s : ℕ) (tn tx n x bad : Bool) {te e tf f tp p : Bool} → tn && tx ≡ n && (x && not bad) → te ≡ e → tf ≡ f →
+    tp ≡ p →
+    leb s 8 && (tn && (tx && (te && (tf && (tp && true)))))
+    ≡ (eqb s (byte s) && (n && (x && (e && (f && (p && true)))))) && not (ltb 8 (byte s) || bad)
+waited s tn tx n x bad {e} {f} {p} h he hf hp =
+    rw (silence_test s, neither (ltb 8 (byte s)) bad, he, hf, hp)
+    (regrouped_waiting (eqb s (byte s)) (not (ltb 8 (byte s))) tn tx (e && (f && (p && true))) n x (not bad) h)
 
 -- what is allowed in each phase
 module _ (v : List ℕ) (whole : length v ≡ 7) where
   abbrev w : ℕ → ℕ
   w k = word_at v k
 
+  abbrev zero_at : (k : ℕ) → leb (w k) 0 ≡ eqb (w k) 0
+  zero_at k = zero_test (w k)
+
+  abbrev truth_at : (k : ℕ) → leb (w k) 1 ≡ eqb (w k) (truth_word (truth (w k)))
+  truth_at k = truth_test (w k)
+
   fresh_good : word_at v 0 ≡ 0 → within v (7 ∷ 0 ∷ 0 ∷ 0 ∷ 0 ∷ 0 ∷ 0 ∷ []) ≡ is_good v
   unfolding is_good is_good_as decoder_of decoder_from same
   fresh_good phase =
       subst (λ (u : List ℕ). within u (7 ∷ 0 ∷ 0 ∷ 0 ∷ 0 ∷ 0 ∷ 0 ∷ []) ≡ is_good u) (sym (seven v whole))
-      (rw (phase, zero_test (w 1), zero_test (w 2), zero_test (w 3), zero_test (w 4), zero_test (w 5), zero_test (w 6))
-      (sym (and_true _)))
+      (rw phase
+      (rw (zero_at 1, zero_at 2, zero_at 3, zero_at 4, zero_at 5, zero_at 6) (sym (and_true _))))
 
   stopped_good : word_at v 0 ≡ 7 → within v (7 ∷ 0 ∷ 0 ∷ 0 ∷ 0 ∷ 0 ∷ 0 ∷ []) ≡ is_good v
   unfolding is_good is_good_as decoder_of decoder_from same
   stopped_good phase =
       subst (λ (u : List ℕ). within u (7 ∷ 0 ∷ 0 ∷ 0 ∷ 0 ∷ 0 ∷ 0 ∷ []) ≡ is_good u) (sym (seven v whole))
-      (rw (phase, zero_test (w 1), zero_test (w 2), zero_test (w 3), zero_test (w 4), zero_test (w 5), zero_test (w 6))
-      (sym (and_true _)))
+      (rw phase
+      (rw (zero_at 1, zero_at 2, zero_at 3, zero_at 4, zero_at 5, zero_at 6) (sym (and_true _))))
 
   pub unused_good : {p : numbers.Phase} → (p ≡ the.Fresh) ⊎ (p ≡ the.Stopped) → word_at v 0 ≡ phase_number p →
       within v (7 ∷ 0 ∷ 0 ∷ 0 ∷ 0 ∷ 0 ∷ 0 ∷ []) ≡ is_good v
@@ -162,42 +171,47 @@ module _ (v : List ℕ) (whole : length v ≡ 7) where
   unfolding is_good is_good_as decoder_of decoder_from same
   hunting_good phase =
       subst (λ (u : List ℕ). within u (7 ∷ 8 ∷ 0 ∷ 0 ∷ 0 ∷ 0 ∷ 255 ∷ []) && not (eqb (word_at u 6) 46) ≡ is_good u) (sym (seven v whole))
-      (rw phase (heard (w 1) (w 2) (w 3) (w 4) (w 5) (w 6) 0 0 0 0 (byte (w 6)) (leb (w 2) 0) (leb (w 3) 0) (leb (w 4) 0) (leb (w 5) 0) (leb (w 6) 255) (not (eqb (w 6) 46)) (eqb (byte (w 6)) 46) (zero_test (w 2)) (zero_test (w 3)) (zero_test (w 4)) (zero_test (w 5)) (places_test (w 6) 46)))
+      (rw phase
+      (heard (w 1) (leb (w 6) 255) (not (eqb (w 6) 46)) (eqb (w 6) (byte (w 6))) (eqb (byte (w 6)) 46)
+      (zero_at 2) (zero_at 3) (zero_at 4) (zero_at 5) (places_test (w 6) 46)))
+
+  abbrev waits : Waiting
+  waits = waiting_of (w 2) (w 3)
 
   pub between_good : word_at v 0 ≡ 2 → within v (7 ∷ 8 ∷ 5 ∷ most_value (word_at v 2) ∷ 0 ∷ 0 ∷ 0 ∷ []) ≡ is_good v
   unfolding is_good is_good_as decoder_of decoder_from same
   between_good phase =
-      let waits = waiting_of (w 2) (w 3) in
       subst (λ (u : List ℕ). within u (7 ∷ 8 ∷ 5 ∷ most_value (word_at u 2) ∷ 0 ∷ 0 ∷ 0 ∷ []) ≡ is_good u) (sym (seven v whole))
       (rw phase
-      (waited (w 1) (w 2) (w 3) (w 4) (w 5) (w 6) (waiting_number waits) (waiting_value waits) 0 0 0
-      (leb (w 2) 5) (leb (w 3) (most_value (w 2))) (leb (w 4) 0) (leb (w 5) 0) (leb (w 6) 0) (bad_waiting waits)
-      (waiting_test (w 2) (w 3)) (zero_test (w 4)) (zero_test (w 5)) (zero_test (w 6))))
+      (waited (w 1) (leb (w 2) 5) (leb (w 3) (most_value (w 2))) (eqb (w 2) (waiting_number waits))
+      (eqb (w 3) (waiting_value waits)) (bad_waiting waits) (waiting_test (w 2) (w 3)) (zero_at 4) (zero_at 5) (zero_at 6)))
 
   pub parity_good : word_at v 0 ≡ 3 → within v (7 ∷ 8 ∷ 5 ∷ most_value (word_at v 2) ∷ 0 ∷ 1 ∷ 0 ∷ []) ≡ is_good v
   unfolding is_good is_good_as decoder_of decoder_from same
   parity_good phase =
-      let waits = waiting_of (w 2) (w 3) in
       subst (λ (u : List ℕ). within u (7 ∷ 8 ∷ 5 ∷ most_value (word_at u 2) ∷ 0 ∷ 1 ∷ 0 ∷ []) ≡ is_good u) (sym (seven v whole))
       (rw phase
-      (waited (w 1) (w 2) (w 3) (w 4) (w 5) (w 6) (waiting_number waits) (waiting_value waits) 0 (truth_word (truth (w 5))) 0
-      (leb (w 2) 5) (leb (w 3) (most_value (w 2))) (leb (w 4) 0) (leb (w 5) 1) (leb (w 6) 0) (bad_waiting waits)
-      (waiting_test (w 2) (w 3)) (zero_test (w 4)) (truth_test (w 5)) (zero_test (w 6))))
+      (waited (w 1) (leb (w 2) 5) (leb (w 3) (most_value (w 2))) (eqb (w 2) (waiting_number waits))
+      (eqb (w 3) (waiting_value waits)) (bad_waiting waits) (waiting_test (w 2) (w 3)) (zero_at 4) (truth_at 5) (zero_at 6)))
 
   pub data_good : word_at v 0 ≡ 4 → within v (7 ∷ 8 ∷ 0 ∷ 0 ∷ 1 ∷ 0 ∷ 255 ∷ []) && not (eqb (word_at v 6) 0) ≡ is_good v
   unfolding is_good is_good_as decoder_of decoder_from same
   data_good phase =
       subst (λ (u : List ℕ). within u (7 ∷ 8 ∷ 0 ∷ 0 ∷ 1 ∷ 0 ∷ 255 ∷ []) && not (eqb (word_at u 6) 0) ≡ is_good u) (sym (seven v whole))
-      (rw phase (heard (w 1) (w 2) (w 3) (w 4) (w 5) (w 6) 0 0 (truth_word (truth (w 4))) 0 (byte (w 6)) (leb (w 2) 0) (leb (w 3) 0) (leb (w 4) 1) (leb (w 5) 0) (leb (w 6) 255) (not (eqb (w 6) 0)) (eqb (byte (w 6)) 0) (zero_test (w 2)) (zero_test (w 3)) (truth_test (w 4)) (zero_test (w 5)) (places_test (w 6) 0)))
+      (rw phase
+      (heard (w 1) (leb (w 6) 255) (not (eqb (w 6) 0)) (eqb (w 6) (byte (w 6))) (eqb (byte (w 6)) 0)
+      (zero_at 2) (zero_at 3) (truth_at 4) (zero_at 5) (places_test (w 6) 0)))
 
   pub control_good : word_at v 0 ≡ 5 → within v (7 ∷ 8 ∷ 0 ∷ 0 ∷ 1 ∷ 0 ∷ 0 ∷ []) ≡ is_good v
   unfolding is_good is_good_as decoder_of decoder_from same
   control_good phase =
       subst (λ (u : List ℕ). within u (7 ∷ 8 ∷ 0 ∷ 0 ∷ 1 ∷ 0 ∷ 0 ∷ []) ≡ is_good u) (sym (seven v whole))
-      (rw phase (sym (and_true _) ∙ heard (w 1) (w 2) (w 3) (w 4) (w 5) (w 6) 0 0 (truth_word (truth (w 4))) 0 0 (leb (w 2) 0) (leb (w 3) 0) (leb (w 4) 1) (leb (w 5) 0) (leb (w 6) 0) true false (zero_test (w 2)) (zero_test (w 3)) (truth_test (w 4)) (zero_test (w 5)) (rw (zero_test (w 6)))))
+      (rw phase
+      (plain (w 1) (zero_at 2) (zero_at 3) (truth_at 4) (zero_at 5) (zero_at 6)))
 
   pub second_good : word_at v 0 ≡ 6 → within v (7 ∷ 8 ∷ 0 ∷ 0 ∷ 1 ∷ 1 ∷ 0 ∷ []) ≡ is_good v
   unfolding is_good is_good_as decoder_of decoder_from same
   second_good phase =
       subst (λ (u : List ℕ). within u (7 ∷ 8 ∷ 0 ∷ 0 ∷ 1 ∷ 1 ∷ 0 ∷ []) ≡ is_good u) (sym (seven v whole))
-      (rw phase (sym (and_true _) ∙ heard (w 1) (w 2) (w 3) (w 4) (w 5) (w 6) 0 0 (truth_word (truth (w 4))) (truth_word (truth (w 5))) 0 (leb (w 2) 0) (leb (w 3) 0) (leb (w 4) 1) (leb (w 5) 1) (leb (w 6) 0) true false (zero_test (w 2)) (zero_test (w 3)) (truth_test (w 4)) (truth_test (w 5)) (rw (zero_test (w 6)))))
+      (rw phase
+      (plain (w 1) (zero_at 2) (zero_at 3) (truth_at 4) (truth_at 5) (zero_at 6)))

@@ -1,6 +1,7 @@
 -- The words of a decoder: what stands where, and what they mean. A word that a phase has no use for is 0.
 -- Assumes nothing.
-use Rattle.std.specs.Prelude.{ℕ, ◌<◌, ◌≡◌, Bool, true, false, not, ◌&&◌, List, [], ◌∷◌, eqb, leb, Option, Result, Ok, Err}
+use Rattle.std.specs.Prelude.{ℕ, ◌<◌, ◌≡◌, Bool, true, not, ◌&&◌, List, [], ◌∷◌, eqb, leb, Option, Result, Ok, Err}
+use Rattle.std.specs.List.{list_all, zip}
 use Rattle.vocabulary.specs.Choice.{pick}
 use Rattle.vocabulary.specs.declared.Refusal.{Refusal}
 use Rattle.vocabulary.specs.Refusals.{STATE, number}
@@ -156,12 +157,9 @@ is_good_as words d = same words (decoder_words d) && not (bad_decoder d)
 unfoldable pub is_good : List ℕ → Bool
 is_good words = is_good_as words (decoder_of words)
 
--- as many words as there are places, and none above the largest that is allowed in its place
+-- no word is above the largest that is allowed in its place
 abbrev pub within : List ℕ → List ℕ → Bool
-within [] [] = true
-within [] (m ∷ most) = false
-within (w ∷ words) [] = false
-within (w ∷ words) (m ∷ most) = leb w m && within words most
+within words most = list_all (λ (p : ℕ × ℕ). leb p.0 p.1) (zip words most)
 
 -- the two calls
 unfoldable pub decoded : Decoded → Left

@@ -14,5 +14,5 @@ pub(crate) fn odd_ones(v: u8) -> bool
 pub(crate) fn odd_n_char(n: u16) -> bool
     ensures { result ≡ odd (n_char_character n).body }
 {
-    u8::try_from(n).map_or(true, |v| odd_ones(v))
+    u8::try_from(n).map_or(true, odd_ones)
 }

@@ -11,7 +11,8 @@ use crate::decoder::{
 use crate::phases::Phase;
 use vocabulary::Refusal;
 
-// No word is above the largest that is allowed in its place.
+// No word is above the largest that is allowed in its place. The words stand one by one: with `zip` and `all` over them
+// a bit takes 1.10 of the tested model's time where it takes 0.88, and 1.0 is allowed.
 #[inline(always)]
 fn within(words: &Words, most: Words) -> bool
     ensures { result ≡ within words.now most }
