@@ -11,8 +11,8 @@ use lib.Seq.{length-take-le}
 use Rattle.listing.specs.Ascii.{ascii}
 use Rattle.listing.specs.Input.{good, bits_in}
 use Rattle.listing.specs.Text.{value_line}
-use Rattle.listing.specs.Listing.{report_lines, last_line}
-use Rattle.listing.specs.Writing.{Progress, start, meant, more_text, Goes}
+use Rattle.listing.specs.Listing.{report_lines, last_line, all_lines}
+use Rattle.listing.specs.Writing.{Room, Puts, Progress, start, meant, more_text, Goes}
 use Rattle.listing.specs.declared.Page.{Page}
 use Rattle.listing.specs.declared.Listing.{Listing}
 use Rattle.listing.proofs.InputLaws.{good_in_front}
@@ -38,9 +38,18 @@ module _ (input : List ℕ) {end : ℕ} (found : end ≡ length (good input)) wh
     unfolding report_lines more_text
     reports = ap (λ (p : Progress). more_text p (bits_in (take end input))) begins ∙ rw before_bad
 
-    counted : {next : Listing} {before behind : Page} → Goes l before (bits_in (take end input)) next behind →
-        next.count ≡ length (bits_in (good input))
-    counted goes = rw before_bad at (count_after goes) ∙ rw (ap (λ (p : Progress). p.count) begins) (zero-add _)
+    module _ {next : Listing} {before behind : Page} (goes : Goes l before (bits_in (take end input)) next behind) where
+      reported : Puts before (report_lines input) behind
+      reported = rw reports at goes.written
+
+      counted : next.count ≡ length (bits_in (good input))
+      counted = rw before_bad at (count_after goes) ∙ rw (ap (λ (p : Progress). p.count) begins) (zero-add _)
+
+      room_left : Room before (all_lines input) → Room behind (last_line input)
+      room_left room = room_second (report_lines input) (last_line input) room reported
+
+      listed : {last : Page} → Puts behind (last_line input) last → Puts before (all_lines input) last
+      listed ends = both_put (report_lines input) (last_line input) reported ends
 
 pub slice_bounds-take_bytes-end : goal.slice_bounds-take_bytes-end
 slice_bounds-take_bytes-end c =
@@ -58,32 +67,28 @@ pub put_value-requires : goal.put_value-requires
 put_value-requires c =
     let input = c.args.input.now in
     let found = c.good_length-end.ensures in
-    let written = rw (reports input found c.fresh-listing.result c.fresh-listing.ensures) at c.take_bytes.ensures.written in
     rw (ends_bad input found c.if-end-input.true) at
-    (room_second (report_lines input) (last_line input) c.requires written)
+    (room_left input found c.fresh-listing.result c.fresh-listing.ensures c.take_bytes.ensures c.requires)
 
 pub put_value-requires-else-end-input : goal.put_value-requires-else-end-input
 put_value-requires-else-end-input c =
     let input = c.args.input.now in
     let found = c.good_length-end.ensures in
-    let written = rw (reports input found c.fresh-listing.result c.fresh-listing.ensures) at c.take_bytes.ensures.written in
     let count = counted input found c.fresh-listing.result c.fresh-listing.ensures c.take_bytes.ensures in
     rw (ends_whole input found count c.if-end-input.false) at
-    (room_second (report_lines input) (last_line input) c.requires written)
+    (room_left input found c.fresh-listing.result c.fresh-listing.ensures c.take_bytes.ensures c.requires)
 
 pub returns-then-end-input : goal.returns-then-end-input
 returns-then-end-input c =
     let input = c.args.input.now in
     let found = c.good_length-end.ensures in
-    let written = rw (reports input found c.fresh-listing.result c.fresh-listing.ensures) at c.take_bytes.ensures.written in
-    both_put (report_lines input) (last_line input) written
+    listed input found c.fresh-listing.result c.fresh-listing.ensures c.take_bytes.ensures
     (rw (ends_bad input found c.if-end-input.true) c.put_value.ensures)
 
 pub returns-else-end-input : goal.returns-else-end-input
 returns-else-end-input c =
     let input = c.args.input.now in
     let found = c.good_length-end.ensures in
-    let written = rw (reports input found c.fresh-listing.result c.fresh-listing.ensures) at c.take_bytes.ensures.written in
     let count = counted input found c.fresh-listing.result c.fresh-listing.ensures c.take_bytes.ensures in
-    both_put (report_lines input) (last_line input) written
+    listed input found c.fresh-listing.result c.fresh-listing.ensures c.take_bytes.ensures
     (rw (ends_whole input found count c.if-end-input.false) c.put_value-else-end-input.ensures)
