@@ -9,7 +9,7 @@ use link::fields::{STATE, TIME_WORDS, TimeWords, WORDS, Words};
 use std::{fmt, io};
 use vocabulary::Refusal;
 
-// The decoder's numbers of the two faults.
+// Two faults, by the number of the decoder's report, as `calls::fault` takes them.
 const PARITY_ERROR: u32 = 5;
 
 const DISCONNECT: u32 = 7;
@@ -33,6 +33,7 @@ struct End {
     tx: [u16; 16],
 }
 
+// A refusal is said where the lines say one. The other calls are refused nothing here, and their answers are let go.
 impl End {
     fn new() -> End {
         End {

@@ -51,7 +51,8 @@ impl Page<'_> {
         self.put(&[b'0' + d as u8]);
     }
 
-    // At most so many places are written.
+    // At most so many places are written. By hand, since the library's `write!` is no plainer here: it needs a writer that
+    // may fail, and writes every place.
     fn put_number(&mut self, places: usize, n: usize)
         requires { Room self.old (decimal_in places n) }
         ensures { Puts self.old (decimal_in places n) self.new }
