@@ -4,7 +4,6 @@
 #![tactic(auto)]
 
 use link::calls;
-use link::calls::Sent;
 use link::fields::{STATE, TIME_WORDS, TimeWords, WORDS, Words};
 use std::{fmt, io};
 use vocabulary::Refusal;
@@ -57,13 +56,8 @@ impl End {
 
     // The token that is due goes to the other end; `time` is the bench's one time record.
     fn pass(&mut self, other: &mut End, time: &mut TimeWords) {
-        if let Ok(
-            Sent {
-                token: Some(token),
-                ..
-            },
-        ) = calls::send(&mut self.words, &mut self.rx, &self.tx)
-        {
+        let sent = calls::send(&mut self.words, &mut self.rx, &self.tx);
+        if let Ok(Some(token)) = sent.map(|sent| sent.token) {
             let kind = u32::from(vocabulary::kind(token));
             let value = u32::from(vocabulary::value(token));
             let _ = calls::receive(
