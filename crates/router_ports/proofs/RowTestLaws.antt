@@ -27,7 +27,7 @@ module _ (words : List ℕ) where
       go (no l) = rw (le-ltb i 11 (omega (arith, l)))
 
   module _ (p : ℕ) (row : List ℕ) where
-    input_row : row_in 0 11 3 words p ≡ Some row →
+    input_row : row_in 0 words p ≡ Some row →
         ltb p 11 && bad_input_in words p
         ≡ bad_mode (word_at row 0) (word_at row 1) (word_at row 2)
         (is_owner (output_at (router_of words) (word_at row 1)).owner p)
@@ -35,14 +35,14 @@ module _ (words : List ℕ) where
     input_row is =
         let e : 0 + 3 * p ≡ 3 * p = omega arith in
         rw (
-          lt-ltb p 11 (row_within 0 11 3 words p row is),
-          first words p row 0 11 3 (3 * p) is e (omega arith),
-          word words p row 0 11 3 (3 * p) is e 1 (omega arith),
-          word words p row 0 11 3 (3 * p) is e 2 (omega arith),
+          lt-ltb p 11 (row_within 0 words p row is),
+          first 0 words p row is (3 * p) e,
+          word 0 words p row is (3 * p) e 1 (omega arith),
+          word 0 words p row is (3 * p) e 2 (omega arith),
           held_anywhere (word_at words (3 * p + 1)) p,
         )
 
-    output_row : row_in 33 11 3 words p ≡ Some row →
+    output_row : row_in 33 words p ≡ Some row →
         ltb p 11 && bad_output_in words p
         ≡ bad_owner (word_at row 0) (word_at row 1) (word_at row 2)
         (is_routed (mode_at (router_of words) (word_at row 1)) p)
@@ -50,17 +50,17 @@ module _ (words : List ℕ) where
     output_row is =
         let e : 33 + 3 * p ≡ 3 * p + 33 = omega arith in
         rw (
-          lt-ltb p 11 (row_within 33 11 3 words p row is),
-          first words p row 33 11 3 (3 * p + 33) is e (omega arith),
-          word words p row 33 11 3 (3 * p + 33) is e 1 (omega arith),
-          word words p row 33 11 3 (3 * p + 33) is e 2 (omega arith),
+          lt-ltb p 11 (row_within 33 words p row is),
+          first 33 words p row is (3 * p + 33) e,
+          word 33 words p row is (3 * p + 33) e 1 (omega arith),
+          word 33 words p row is (3 * p + 33) e 2 (omega arith),
           routed_anywhere (word_at words (3 * p + 33 + 1)) p,
         )
 
-  pub port_rows : (p : ℕ) (input output : List ℕ) → row_in 0 11 3 words p ≡ Some input → row_in 33 11 3 words p ≡ Some output →
+  pub port_rows : (p : ℕ) (input output : List ℕ) → row_in 0 words p ≡ Some input → row_in 33 words p ≡ Some output →
       ltb p 11 && bad_port_in words p
       ≡ bad_mode (word_at input 0) (word_at input 1) (word_at input 2) (is_owner (output_at (router_of words) (word_at input 1)).owner p)
       || bad_owner (word_at output 0) (word_at output 1) (word_at output 2) (is_routed (mode_at (router_of words) (word_at output 1)) p)
   port_rows p input output i o =
-      let within : ltb p 11 ≡ true = lt-ltb p 11 (row_within 0 11 3 words p input i) in
+      let within : ltb p 11 ≡ true = lt-ltb p 11 (row_within 0 words p input i) in
       rw (within, ← input_row p input i, ← output_row p output o, within)

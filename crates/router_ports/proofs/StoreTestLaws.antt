@@ -1,17 +1,17 @@
 -- The words of the stores, two by two from the first on: each pair is tested as the store that it means.
 -- Assumes nothing.
-use Rattle.std.proofs.Common.{◌≡◌, ℕ, zero, suc, ◌+◌, ◌*◌, ◌/◌, ◌<◌, ◌≤◌, Bool, ◌||◌, List, length, take, drop, leb, ltb, refl, sym, ap, ap₂, ◌∙◌, arith}
+use Rattle.std.proofs.Common.{◌≡◌, ℕ, zero, suc, ◌+◌, ◌*◌, ◌/◌, ◌<◌, ◌≤◌, Bool, ◌||◌, List, length, take, drop, leb, ltb, refl, ap, ap₂, ◌∙◌, arith}
 use Rattle.std.proofs.lemmas.List.{take_all, drop-drop, length-drop}
 use Rattle.std.specs.List.{list_any}
 use Rattle.std.specs.Simd.{first_chunks}
-use borrow.Author.Tests.{lt-ltb}
 use Rattle.words.specs.Words.{word_at}
 use Rattle.store.specs.Ring.{bad_store}
 use Rattle.store.specs.StoreWords.{store_of}
 use Rattle.router_ports.specs.Each.{any}
 use Rattle.router_ports.specs.Ports.{store_at}
 use Rattle.router_ports.specs.RouterWords.{router_of}
-use Rattle.router_ports.proofs.RowLaws.{store_row}
+use Rattle.router_ports.proofs.PlaceWords.{store_in_lem}
+use Rattle.router_ports.proofs.RowLaws.{word_taken}
 
 module _ (words : List ℕ) (size : ℕ) where
   abbrev bad_words : List ℕ → Bool
@@ -22,7 +22,15 @@ module _ (words : List ℕ) (size : ℕ) where
 
   bad_here : (k : ℕ) → k < 22 → bad_words (take 2 (drop (66 + 2 * k) words)) ≡ bad_at k
   unfolding store_of
-  bad_here k h = sym (ap (bad_store size) (store_row words k (take 2 (drop (66 + 2 * k) words)) (rw (lt-ltb k 22 h))))
+  bad_here k h =
+      let e : 66 + 2 * k ≡ 2 * k + 66 = omega arith in
+      rw (
+        store_in_lem words k h,
+        word_taken words (66 + 2 * k) 2 0 (omega arith),
+        word_taken words (66 + 2 * k) 2 1 (omega arith),
+        e,
+        let first : 2 * k + 66 + 0 ≡ 2 * k + 66 = omega arith in first,
+      )
 
   each_bad : (from count : ℕ) → from + count ≤ 22 →
       list_any bad_words (first_chunks 2 count (drop (66 + 2 * from) words)) ≡ any bad_at from count

@@ -23,9 +23,9 @@ unfoldable pub listed : {A : Type 0} → (ℕ → A) → ℕ → ℕ → List A
 listed f from zero = []
 listed f from (suc count) = f from ∷ listed f (from + 1) count
 
--- row k of rows of n words, `count` of them from `from` on
-abbrev pub row_in : ℕ → ℕ → ℕ → List ℕ → ℕ → Option (List ℕ)
-row_in from count n words k = pick (ltb k count) (Some (take n (drop (from + n * k) words))) None
+-- the row of a port, of rows of three words that begin `from`
+abbrev pub row_in : ℕ → List ℕ → ℕ → Option (List ℕ)
+row_in from words k = pick (ltb k PORTS) (Some (take 3 (drop (from + 3 * k) words))) None
 
 -- saved: the value of a waiting input is its set of ports, of a routed one its output
 abbrev pub mode_words : Mode → List ℕ

@@ -36,63 +36,49 @@ const NONE_GRANTED: usize = 10;
 
 // A router in words: for each input its mode, a value and high priority; for each output its owner, the input that
 // holds it and the last granted input; for each store its front and its length.
-const INPUT_WORDS: usize = 3;
-
-const OUTPUT_WORDS: usize = 3;
+const ROW_WORDS: usize = 3;
 
 const STORE_WORDS: usize = 2;
 
-const OUTPUTS_AT: usize = PORTS * INPUT_WORDS;
+const OUTPUTS_AT: usize = PORTS * ROW_WORDS;
 
-const STORES_AT: usize = OUTPUTS_AT + PORTS * OUTPUT_WORDS;
+const STORES_AT: usize = OUTPUTS_AT + PORTS * ROW_WORDS;
 
 pub const WORDS: usize = STORES_AT + STORES * STORE_WORDS;
 
 pub type Words = [u32; WORDS];
 
-// Where the words of the inputs, the outputs or the stores stand: rows of N words, one behind the other.
+// Where the words of the inputs, or those of the outputs, begin: a row of three for each port.
 #[derive(Clone, Copy)]
-struct Rows<const N: usize> {
+struct Rows {
     from: usize,
-    count: usize,
-    ghost within: { from + count * N ≤ 110 },
+    ghost within: { from + 33 ≤ 110 },
 }
 
-const INPUT_ROWS: Rows<INPUT_WORDS> = Rows {
-    from: 0,
-    count: PORTS,
-};
+const INPUT_ROWS: Rows = Rows { from: 0 };
 
-const OUTPUT_ROWS: Rows<OUTPUT_WORDS> = Rows {
-    from: OUTPUTS_AT,
-    count: PORTS,
-};
+const OUTPUT_ROWS: Rows = Rows { from: OUTPUTS_AT };
 
-const STORE_ROWS: Rows<STORE_WORDS> = Rows {
-    from: STORES_AT,
-    count: STORES,
-};
-
-impl<const N: usize> Rows<N> {
+impl Rows {
     // The words of a row; none past the last.
     #[inline(always)]
-    fn read(self, words: &Words, k: usize) -> Option<[u32; N]>
-        ensures { result ≡ row_in self.entry.from self.entry.count N words.now k }
+    fn read(self, words: &Words, k: usize) -> Option<[u32; 3]>
+        ensures { result ≡ row_in self.from words.now k }
     {
-        if self.count <= k {
+        if PORTS <= k {
             return None;
         }
-        let at = self.from + N * k;
-        words[at..at + N].try_into().ok()
+        let at = self.from + ROW_WORDS * k;
+        words[at..at + ROW_WORDS].try_into().ok()
     }
 
     #[inline(always)]
-    fn write(self, words: &mut Words, k: usize, row: [u32; N])
-        ensures { words.new ≡ pick (ltb k self.entry.count) (sets words.old (self.entry.from + N * k) row.entry) words.old }
+    fn write(self, words: &mut Words, k: usize, row: [u32; 3])
+        ensures { words.new ≡ pick (ltb k 11) (sets words.old (self.from + 3 * k) row) words.old }
     {
-        if k < self.count {
-            let at = self.from + N * k;
-            words[at..at + N].copy_from_slice(&row);
+        if k < PORTS {
+            let at = self.from + ROW_WORDS * k;
+            words[at..at + ROW_WORDS].copy_from_slice(&row);
         }
     }
 }
@@ -278,13 +264,16 @@ pub fn output_at(words: &Words, o: usize) -> Output
     }
 }
 
-#[tactic(auto, using(crate::proofs::RowLaws::store_row))]
+// Tried as rows of two words, which are then read as one of 64 bits and taken apart: a round moves an N-Char a sixth slower.
+#[tactic(auto, using(crate::proofs::PlaceWords::store_in_lem))]
 pub fn store_at(words: &Words, k: usize) -> Store
     ensures { result ≡ store_at (router_of words.now) k }
 {
-    match STORE_ROWS.read(words, k) {
-        Some(row) => Store::from(row),
-        None => Store::fresh(),
+    if k < STORES {
+        let at = STORE_WORDS * k + STORES_AT;
+        Store::from([words[at], words[at + 1]])
+    } else {
+        Store::fresh()
     }
 }
 
@@ -306,7 +295,11 @@ pub fn set_output(words: &mut Words, o: usize, out: Output)
 pub fn set_store(words: &mut Words, k: usize, st: Store)
     ensures { words.new ≡ with_store_in words.old k st }
 {
-    STORE_ROWS.write(words, k, st.into());
+    if k < STORES {
+        let at = STORE_WORDS * k + STORES_AT;
+        words[at] = words::narrow(st.front);
+        words[at + 1] = words::narrow(st.len);
+    }
 }
 
 pub fn empty_at(words: &Words, k: usize) -> bool
