@@ -141,7 +141,8 @@ eop_sent true = refl
 eop_sent false = refl
 
 -- any larger number is read as an EEP
-pub eep_sent : (o : Bool) (n : ℕ) → 256 ≤ n → (n ≡ 256 → ⊥) → sent (record { odd = o }) (NChar n) ≡ carried true (truth_word o + 6) 4
+pub eep_sent : (o : Bool) (n : ℕ) → 256 ≤ n → (n ≡ 256 → ⊥) →
+    sent (record { odd = o }) (NChar n) ≡ carried true (truth_word o + 6) 4
 unfolding sent
 eep_sent true n h k = rw (le-ltb n 256 h, ne_eqb n 256 k)
 eep_sent false n h k = rw (le-ltb n 256 h, ne_eqb n 256 k)

@@ -167,10 +167,12 @@ module _ (v : List ℕ) (whole : length v ≡ 7) where
   unused_good (inl e) phase = fresh_good (rw e at phase)
   unused_good (inr e) phase = stopped_good (rw e at phase)
 
-  pub hunting_good : word_at v 0 ≡ 1 → within v (7 ∷ 8 ∷ 0 ∷ 0 ∷ 0 ∷ 0 ∷ 255 ∷ []) && not (eqb (word_at v 6) 46) ≡ is_good v
+  pub hunting_good : word_at v 0 ≡ 1 →
+      within v (7 ∷ 8 ∷ 0 ∷ 0 ∷ 0 ∷ 0 ∷ 255 ∷ []) && not (eqb (word_at v 6) 46) ≡ is_good v
   unfolding is_good is_good_as decoder_of decoder_from same
   hunting_good phase =
-      subst (λ (u : List ℕ). within u (7 ∷ 8 ∷ 0 ∷ 0 ∷ 0 ∷ 0 ∷ 255 ∷ []) && not (eqb (word_at u 6) 46) ≡ is_good u) (sym (seven v whole))
+      subst (λ (u : List ℕ). within u (7 ∷ 8 ∷ 0 ∷ 0 ∷ 0 ∷ 0 ∷ 255 ∷ []) && not (eqb (word_at u 6) 46) ≡ is_good u)
+      (sym (seven v whole))
       (rw phase
       (heard (w 1) (leb (w 6) 255) (not (eqb (w 6) 46)) (eqb (w 6) (byte (w 6))) (eqb (byte (w 6)) 46)
       (zero_at 2) (zero_at 3) (zero_at 4) (zero_at 5) (places_test (w 6) 46)))
@@ -181,7 +183,8 @@ module _ (v : List ℕ) (whole : length v ≡ 7) where
   pub between_good : word_at v 0 ≡ 2 → within v (7 ∷ 8 ∷ 5 ∷ most_value (word_at v 2) ∷ 0 ∷ 0 ∷ 0 ∷ []) ≡ is_good v
   unfolding is_good is_good_as decoder_of decoder_from same
   between_good phase =
-      subst (λ (u : List ℕ). within u (7 ∷ 8 ∷ 5 ∷ most_value (word_at u 2) ∷ 0 ∷ 0 ∷ 0 ∷ []) ≡ is_good u) (sym (seven v whole))
+      subst (λ (u : List ℕ). within u (7 ∷ 8 ∷ 5 ∷ most_value (word_at u 2) ∷ 0 ∷ 0 ∷ 0 ∷ []) ≡ is_good u)
+      (sym (seven v whole))
       (rw phase
       (waited (w 1) (leb (w 2) 5) (leb (w 3) (most_value (w 2))) (eqb (w 2) (waiting_number waits))
       (eqb (w 3) (waiting_value waits)) (bad_waiting waits) (waiting_test (w 2) (w 3)) (zero_at 4) (zero_at 5) (zero_at 6)))
@@ -189,15 +192,18 @@ module _ (v : List ℕ) (whole : length v ≡ 7) where
   pub parity_good : word_at v 0 ≡ 3 → within v (7 ∷ 8 ∷ 5 ∷ most_value (word_at v 2) ∷ 0 ∷ 1 ∷ 0 ∷ []) ≡ is_good v
   unfolding is_good is_good_as decoder_of decoder_from same
   parity_good phase =
-      subst (λ (u : List ℕ). within u (7 ∷ 8 ∷ 5 ∷ most_value (word_at u 2) ∷ 0 ∷ 1 ∷ 0 ∷ []) ≡ is_good u) (sym (seven v whole))
+      subst (λ (u : List ℕ). within u (7 ∷ 8 ∷ 5 ∷ most_value (word_at u 2) ∷ 0 ∷ 1 ∷ 0 ∷ []) ≡ is_good u)
+      (sym (seven v whole))
       (rw phase
       (waited (w 1) (leb (w 2) 5) (leb (w 3) (most_value (w 2))) (eqb (w 2) (waiting_number waits))
       (eqb (w 3) (waiting_value waits)) (bad_waiting waits) (waiting_test (w 2) (w 3)) (zero_at 4) (truth_at 5) (zero_at 6)))
 
-  pub data_good : word_at v 0 ≡ 4 → within v (7 ∷ 8 ∷ 0 ∷ 0 ∷ 1 ∷ 0 ∷ 255 ∷ []) && not (eqb (word_at v 6) 0) ≡ is_good v
+  pub data_good : word_at v 0 ≡ 4 →
+      within v (7 ∷ 8 ∷ 0 ∷ 0 ∷ 1 ∷ 0 ∷ 255 ∷ []) && not (eqb (word_at v 6) 0) ≡ is_good v
   unfolding is_good is_good_as decoder_of decoder_from same
   data_good phase =
-      subst (λ (u : List ℕ). within u (7 ∷ 8 ∷ 0 ∷ 0 ∷ 1 ∷ 0 ∷ 255 ∷ []) && not (eqb (word_at u 6) 0) ≡ is_good u) (sym (seven v whole))
+      subst (λ (u : List ℕ). within u (7 ∷ 8 ∷ 0 ∷ 0 ∷ 1 ∷ 0 ∷ 255 ∷ []) && not (eqb (word_at u 6) 0) ≡ is_good u)
+      (sym (seven v whole))
       (rw phase
       (heard (w 1) (leb (w 6) 255) (not (eqb (w 6) 0)) (eqb (w 6) (byte (w 6))) (eqb (byte (w 6)) 0)
       (zero_at 2) (zero_at 3) (truth_at 4) (zero_at 5) (places_test (w 6) 0)))

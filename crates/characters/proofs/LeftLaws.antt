@@ -19,13 +19,16 @@ use Rattle.characters.specs.declared.phases.Phase as numbers
 use Rattle.characters.specs.declared.phases.Phase.TheVariants as the
 use Rattle.characters.specs.declared.reports.Report.{Report}
 use Rattle.characters.specs.declared.reports.Waiting.{Waiting}
-use Rattle.characters.specs.States.{Phase, Hunting, Between, Parity, Data, Control, Second, Decoder, Fresh, Heard, Stopped, Step}
+use Rattle.characters.specs.States.{Phase, Hunting, Between, Parity, Data, Control, Second, Decoder, Fresh, Heard}
+use Rattle.characters.specs.States.{Stopped, Step}
 use Rattle.characters.specs.Reports.{report_words}
 use Rattle.characters.specs.Decoder.{bit_step, tick_step, silence}
 use Rattle.characters.specs.Refusals.{bad_waiting, bad_decoder, is_stopped}
 use Rattle.characters.specs.Calls.{bit_answer, tick_answer, decode_accepted, decode_refused}
-use Rattle.characters.specs.DecoderWords.{decoder_words, phase_words, decoder_from, decoder_of, decoded, no_decoder, accepted}
-use Rattle.characters.specs.DecoderWords.{phase_number, phase_numbered, waiting_of, bit_left, tick_left, is_decoder, is_good_as}
+use Rattle.characters.specs.DecoderWords.{decoder_words, phase_words, decoder_from, decoder_of, decoded, no_decoder}
+use Rattle.characters.specs.DecoderWords.{accepted}
+use Rattle.characters.specs.DecoderWords.{phase_number, phase_numbered, waiting_of, bit_left, tick_left, is_decoder}
+use Rattle.characters.specs.DecoderWords.{is_good_as}
 use Rattle.characters.specs.DecoderWords.{is_good, Made, Takes}
 
 -- the words as they were, with this refusal
@@ -244,7 +247,8 @@ module _ (words : List ℕ) where
   tick_taken phase means moving takes =
       let good = found_good phase in
       let is = means good.1 in
-      made words _ (takes (own_words words good.0 ∙ ap decoder_words is)) ∙ sym (rw (tick_tested words, good.0, is, moving))
+      made words _ (takes (own_words words good.0 ∙ ap decoder_words is))
+      ∙ sym (rw (tick_tested words, good.0, is, moving))
 
   pub tick_fresh : found ≡ Ok the.Fresh → kept words 0 ≡ tick_left words
   tick_fresh phase = tick_taken phase (fresh_means words) refl (λ shape. (shape, refl))

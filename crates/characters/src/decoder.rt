@@ -15,7 +15,8 @@ use crate::reports::{Report, Waiting};
 use crate::{bits, decoder_tests};
 use vocabulary::{EEP, EOP, Refusal, Token};
 
-// A decoder is so many words. What stands where is said here.
+// A decoder is so many words. C owns them (`neftolek_decoder_bit` and its fellows), so they are an array and no struct with
+// an enum: what stands where is said here, and a call writes only the words that change.
 pub const WORDS: usize = 7;
 
 pub type Words = [u32; WORDS];

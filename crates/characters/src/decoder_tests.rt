@@ -26,7 +26,8 @@ fn within(words: &Words, most: Words) -> bool
         & (words[PLACES] <= most[PLACES])
 }
 
-// The largest value that something with this number waits with. Nothing, NULL, FCT and ESC wait with the value 0.
+// The largest value that something with this number waits with, as C's words hold it: 3 an N-Char, 4 a Time-Code. Nothing,
+// NULL, FCT and ESC wait with the value 0.
 #[inline(always)]
 fn most_value(number: u32) -> u32
     ensures { result ≡ most_value number }

@@ -98,7 +98,8 @@ fn sent(odd: bool, token: Token) -> (bool, Bits)
     }
 }
 
-// The token with this number and value as bits. From fresh, 2 and 0, FCT, give the four bits 0100, as the number 2.
+// The token with this number and value, any words that C hands in, as bits. From fresh, 2 and 0, FCT, give the four bits
+// 0100, as the number 2.
 pub fn encode(words: &mut Words, kind: u32, value: u32) -> Result<Bits, Refusal>
     ensures { record { refusal = refusal_in result; state = words.new; out = bits_words (answer_in no_bits result) }
         ≡ encode_left words.old kind value }

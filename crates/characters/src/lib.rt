@@ -1,9 +1,9 @@
 // Bits to characters and back (01, Characters on the wire), in place on the words that the caller keeps.
 #![tactic(auto)]
 
-pub mod bits;
+mod bits;
 pub mod decoder;
 mod decoder_tests;
 pub mod encoder;
-pub mod phases;
+mod phases;
 pub mod reports;

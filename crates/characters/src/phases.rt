@@ -5,7 +5,7 @@ ghost use Rattle.characters.specs.DecoderWords.{phase_number, phase_numbered};
 use vocabulary::Refusal;
 
 #[derive(Clone, Copy, Debug, PartialEq, Eq)]
-pub enum Phase {
+pub(crate) enum Phase {
     Fresh,
     Hunting,
     Between,

@@ -29,7 +29,7 @@ impl From<Report> for [u32; 2] {
     }
 }
 
-// What the last character left to report.
+// What the last character left to report. No call answers it: it is public since theorems above this crate speak of it.
 #[derive(Clone, Copy, Debug, PartialEq, Eq)]
 pub enum Waiting {
     // Nothing: the first NULL was reported at once.

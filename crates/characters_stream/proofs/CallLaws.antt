@@ -11,7 +11,8 @@ use borrow.Author.Tests.{ne_eqb}
 use Rattle.std.specs.Prelude.{Option, None, Some}
 use Rattle.characters.specs.Bits.{number}
 use Rattle.characters.specs.Wire.{good_parity}
-use Rattle.characters.specs.Decoder.{goes_on, stops, body_odd, closes, escaped, body_of, flagged, data_token, data_bit, bit_step}
+use Rattle.characters.specs.Decoder.{goes_on, stops, body_odd, closes, escaped, body_of, flagged, data_token, data_bit}
+use Rattle.characters.specs.Decoder.{bit_step}
 use Rattle.characters.specs.Refusals.{bad_decoder, bad_waiting, is_stopped}
 use Rattle.characters.specs.Calls.{bit_answer, decode_accepted, decode_refused}
 use Rattle.characters.proofs.BitLaws.{lowest}

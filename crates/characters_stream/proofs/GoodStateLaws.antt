@@ -9,14 +9,16 @@ use lib.Dec.{eqb, ltb}
 use borrow.Author.Tests.{eqb-false, ltb-true, ne_eqb, le-ltb}
 use Rattle.vocabulary.specs.Choice.{pick}
 use Rattle.characters.specs.Wire.{good_parity}
-use Rattle.characters.specs.Decoder.{goes_on, stops, shifted, hunted_for, no_bits, hunts, body_odd, flagged, data_token, data_bit}
+use Rattle.characters.specs.Decoder.{goes_on, stops, shifted, hunted_for, no_bits, hunts, body_odd, flagged, data_token}
+use Rattle.characters.specs.Decoder.{data_bit}
 use Rattle.characters.specs.Decoder.{plain, second_bit, in_phase, bit_step, silence, tick_step}
 use Rattle.characters.specs.Refusals.{bad_waiting, bad_phase, decoder_refusal}
 use Rattle.characters.specs.Calls.{bit_answer, tick_answer, decode_accepted, decode_refused}
 use Rattle.characters.proofs.BitLaws.{bit_le}
 use Rattle.characters.specs.declared.reports.Waiting.{Waiting}
 use Rattle.characters.specs.declared.reports.Waiting.TheVariants.{Whole}
-use Rattle.characters.specs.States.{Phase, Hunting, Between, Parity, Data, Control, Second, Decoder, Fresh, Heard, Stopped, Decoded, Step}
+use Rattle.characters.specs.States.{Phase, Hunting, Between, Parity, Data, Control, Second, Decoder, Fresh, Heard}
+use Rattle.characters.specs.States.{Stopped, Decoded, Step}
 use Rattle.characters_stream.specs.Feeding.{after}
 use Rattle.characters_stream.specs.GoodStates.{Good, EightPlaces, Call, bit, tick, left, left_all, StaysGood}
 

@@ -20,7 +20,8 @@ use Rattle.characters_stream.specs.Ticks.{is_error, Failed}
 use Rattle.characters_stream.proofs.CallLaws.{parity_comes, flag_closes, flag_spoils, control_comes, second_spoils}
 use Rattle.characters_stream.proofs.CallLaws.{stopped_stays}
 use Rattle.characters_stream.proofs.ReadingLaws.{ended_passes, ended_parity}
-use Rattle.characters_stream.proofs.FeedLaws.{final, after_bit, after_last, final_bit, final_last, after_append, final_behind}
+use Rattle.characters_stream.proofs.FeedLaws.{final, after_bit, after_last, final_bit, final_last, after_append}
+use Rattle.characters_stream.proofs.FeedLaws.{final_behind}
 use Rattle.characters_stream.proofs.RunLaws.{run_none, character_run}
 use Rattle.characters_stream.proofs.HuntLaws.{fresh_hunts, first_null_run}
 

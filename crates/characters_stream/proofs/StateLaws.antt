@@ -16,7 +16,8 @@ use Rattle.characters.specs.Calls.{bit_answer}
 use Rattle.characters.specs.declared.reports.Report.{Report}
 use Rattle.characters.specs.declared.reports.Waiting.{Waiting}
 use Rattle.characters.specs.declared.reports.Waiting.TheVariants.{Reported, Whole, Esc}
-use Rattle.characters.specs.States.{Phase, Hunting, Between, Parity, Data, Control, Second, Decoder, Fresh, Heard, Stopped, Decoded}
+use Rattle.characters.specs.States.{Phase, Hunting, Between, Parity, Data, Control, Second, Decoder, Fresh, Heard}
+use Rattle.characters.specs.States.{Stopped, Decoded}
 use Rattle.characters_stream.specs.Meaning.{eight_bits, EndIn8, FirstNull, TogetherOdd}
 use Rattle.characters_stream.specs.Meaning.{Reading, byte, fct, eop, eep, esc, null, time_code}
 use Rattle.characters_stream.specs.Meaning.{Ended, first, next, ReportedAt, first_null, closed, bad_parity, bad_escape}

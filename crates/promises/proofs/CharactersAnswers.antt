@@ -26,8 +26,6 @@ use Rattle.characters.proofs.encoder.ArrayU322FromBits.from.Kinds as bits_words_
 use Rattle.characters.proofs.encoder.ArrayU322FromBits.from.Reads as bits_words_reads
 use Rattle.characters.proofs.reports.ArrayU322FromReport.from.Kinds as report_words_kinds
 use Rattle.characters.proofs.reports.ArrayU322FromReport.from.Reads as report_words_reads
-use Rattle.characters.proofs.phases.PhaseTryFromU32.try_from.Kinds as phase_kinds
-use Rattle.characters.proofs.phases.PhaseTryFromU32.try_from.Reads as phase_reads
 
 pub decoder_fresh_words : OnePlaces 1 decoder_fresh_kinds.ps decoder_fresh_kinds.r decoder_fresh_reads.Post
     (λ κs s. s.0.now)
@@ -77,6 +75,3 @@ words_of_bits κs a x y s t p q = p ∙ sym q
 
 pub words_of_report : OneResult 0 report_words_kinds.ps report_words_kinds.r report_words_reads.Post
 words_of_report κs a x y s t p q = p ∙ sym q
-
-pub phase : OneResult 0 phase_kinds.ps phase_kinds.r phase_reads.Post
-phase κs a x y s t p q = p ∙ sym q

@@ -23,26 +23,30 @@ returns-in_err-phase_of c =
 pub returns-in-Fresh : goal.returns-in-Fresh
 returns-in-Fresh c =
     let v = c.args.words.now in
-    bit_taken v c.args.bit c.truth-b.ensures (sym c.phase_of.ensures ∙ c.in_ok-phase_of.was ∙ ap Ok c.in-Fresh.is) (fresh_means v) refl
+    bit_taken v c.args.bit c.truth-b.ensures (sym c.phase_of.ensures ∙ c.in_ok-phase_of.was ∙ ap Ok c.in-Fresh.is)
+    (fresh_means v) refl
     (λ good shape. c.hunt.ensures _ _ _ shape)
 
 pub returns-in-Hunting : goal.returns-in-Hunting
 returns-in-Hunting c =
     let v = c.args.words.now in
-    bit_taken v c.args.bit c.truth-b.ensures (sym c.phase_of.ensures ∙ c.in_ok-phase_of.was ∙ ap Ok c.in-Hunting.is) (hunting_means v) refl
+    bit_taken v c.args.bit c.truth-b.ensures (sym c.phase_of.ensures ∙ c.in_ok-phase_of.was ∙ ap Ok c.in-Hunting.is)
+    (hunting_means v) refl
     (λ good shape. rw (ap (λ (w : List ℕ). word_at w 6) shape) at (c.hunt-in-Hunting.ensures _ _ _ shape))
 
 pub returns-in-Between : goal.returns-in-Between
 unfolding goes_on
 returns-in-Between c =
     let v = c.args.words.now in
-    bit_taken v c.args.bit c.truth-b.ensures (sym c.phase_of.ensures ∙ c.in_ok-phase_of.was ∙ ap Ok c.in-Between.is) (between_means v) refl
+    bit_taken v c.args.bit c.truth-b.ensures (sym c.phase_of.ensures ∙ c.in_ok-phase_of.was ∙ ap Ok c.in-Between.is)
+    (between_means v) refl
     (λ good shape. c.keep_bit.ensures _ _ _ _ _ _ _ (Heard (Parity _ c.truth-b.result) 0) refl shape)
 
 pub returns-in-Parity : goal.returns-in-Parity
 returns-in-Parity c =
     let v = c.args.words.now in
-    bit_taken v c.args.bit c.truth-b.ensures (sym c.phase_of.ensures ∙ c.in_ok-phase_of.was ∙ ap Ok c.in-Parity.is) (parity_means v) refl
+    bit_taken v c.args.bit c.truth-b.ensures (sym c.phase_of.ensures ∙ c.in_ok-phase_of.was ∙ ap Ok c.in-Parity.is)
+    (parity_means v) refl
     (λ good shape.
     c.flag_bit.ensures _ _ _ (waiting_fits (word_at v 2) (word_at v 3))
     (waiting_good v (byte (word_at v 1)) (waiting_of (word_at v 2) (word_at v 3)) good) shape)
@@ -50,21 +54,26 @@ returns-in-Parity c =
 pub returns-in-Data : goal.returns-in-Data
 returns-in-Data c =
     let v = c.args.words.now in
-    bit_taken v c.args.bit c.truth-b.ensures (sym c.phase_of.ensures ∙ c.in_ok-phase_of.was ∙ ap Ok c.in-Data.is) (data_means v) refl
+    bit_taken v c.args.bit c.truth-b.ensures (sym c.phase_of.ensures ∙ c.in_ok-phase_of.was ∙ ap Ok c.in-Data.is)
+    (data_means v) refl
     (λ good shape. c.data_bit.ensures _ _ _ (omega arith) shape)
 
 pub returns-in-Control : goal.returns-in-Control
 unfolding goes_on
 returns-in-Control c =
     let v = c.args.words.now in
-    bit_taken v c.args.bit c.truth-b.ensures (sym c.phase_of.ensures ∙ c.in_ok-phase_of.was ∙ ap Ok c.in-Control.is) (control_means v) refl
+    bit_taken v c.args.bit c.truth-b.ensures (sym c.phase_of.ensures ∙ c.in_ok-phase_of.was ∙ ap Ok c.in-Control.is)
+    (control_means v) refl
     (λ good shape. c.keep_bit-in-Control.ensures _ _ _ _ _ _ _ (Heard (Second _ c.truth-b.result) 0) refl shape)
 
 pub returns-in-Second : goal.returns-in-Second
 returns-in-Second c =
     let v = c.args.words.now in
-    bit_taken v c.args.bit c.truth-b.ensures (sym c.phase_of.ensures ∙ c.in_ok-phase_of.was ∙ ap Ok c.in-Second.is) (second_means v) refl
+    bit_taken v c.args.bit c.truth-b.ensures (sym c.phase_of.ensures ∙ c.in_ok-phase_of.was ∙ ap Ok c.in-Second.is)
+    (second_means v) refl
     (λ good shape. c.second_bit.ensures _ _ _ shape)
 
 pub returns-in-Stopped : goal.returns-in-Stopped
-returns-in-Stopped c = bit_stopped c.args.words.now c.args.bit (sym c.phase_of.ensures ∙ c.in_ok-phase_of.was ∙ ap Ok c.in-Stopped.is)
+returns-in-Stopped c =
+    bit_stopped c.args.words.now c.args.bit
+    (sym c.phase_of.ensures ∙ c.in_ok-phase_of.was ∙ ap Ok c.in-Stopped.is)

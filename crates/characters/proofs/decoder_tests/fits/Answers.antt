@@ -16,12 +16,14 @@ returns-in-Hunting c =
 pub returns-in-Between : goal.returns-in-Between
 returns-in-Between c =
     let v = c.args.words.now in
-    rw (c.within-in-Between.ensures, c.most_value.ensures) (between_good v (search rules) (rw c.in-Between.is at c.requires))
+    rw (c.within-in-Between.ensures, c.most_value.ensures)
+    (between_good v (search rules) (rw c.in-Between.is at c.requires))
 
 pub returns-in-Parity : goal.returns-in-Parity
 returns-in-Parity c =
     let v = c.args.words.now in
-    rw (c.within-in-Parity.ensures, c.most_value-in-Parity.ensures) (parity_good v (search rules) (rw c.in-Parity.is at c.requires))
+    rw (c.within-in-Parity.ensures, c.most_value-in-Parity.ensures)
+    (parity_good v (search rules) (rw c.in-Parity.is at c.requires))
 
 pub returns-in-Data : goal.returns-in-Data
 returns-in-Data c =
