@@ -6,11 +6,10 @@ use mathlib.Core.List.{List, [], ◌∷◌, ◌++◌, append-nil}
 use Prim.Native.Nat.{ℕ, ◌+◌, ◌-◌, ◌*◌, ◌<◌}
 use native.Mathlib.Nat.{add_assoc}
 use native.Mathlib.Omega.{arith}
-use Rattle.vocabulary.specs.Choice.{pick}
 use Rattle.vocabulary.specs.declared.Token.{Token}
 use Rattle.vocabulary.specs.declared.Token.TheVariants.{Null, Fct, NChar, TimeCode}
 use Rattle.characters.specs.Bits.{bit, odd, number, bits_of}
-use Rattle.characters.specs.Wire.{Character, wire, data8, control, esc, eop, eep, characters_of, last_odd}
+use Rattle.characters.specs.Wire.{Character, wire, data8, control, esc, characters_of, last_odd}
 use Rattle.characters.proofs.BitLaws.{number_bits, number_behind}
 
 -- of a control character the parity bit tells whether the ones before it are odd
@@ -42,11 +41,6 @@ time_code_number o v h =
     control_number o true true (data8 v ∷ [])
     ∙ ap (λ (n : ℕ). bit o + n) (escape_number v h)
     ∙ sym (add_assoc (bit o) 30 (64 * v))
-
--- the bodies of both ends of a packet hold one 1
-pub end_odd : (b : Bool) → odd (pick b eop eep).body ≡ true
-end_odd true = refl
-end_odd false = refl
 
 -- What came before decides the parity bit alone, not the last body.
 pub last_of_any : (o : Bool) (t : Token) → last_odd false (characters_of t) ≡ last_odd o (characters_of t)
