@@ -67,7 +67,7 @@ fn address(state: &mut Words, area: &[u16], table: &Table, i: usize) -> Deed
 pub(crate) fn read_all(state: &mut Words, area: &[u16], table: &Table) -> Totals
     ensures { (c : Totals) → tally (added c result) (kept state.new area.now) ≡ part1 in_words table.now (tally c (kept state.old area.now)) }
 {
-    let mut done = Totals::none();
+    let mut done = Totals::default();
     for i in 0..PORTS {
         done.count(address(state, area, table, i));
     }

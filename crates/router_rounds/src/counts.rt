@@ -1,7 +1,7 @@
 // What a run counts.
 ghost use Rattle.std.specs.Prelude.{◌≡◌, ◌+◌, ◌<◌, ◌^◌};
 ghost use Rattle.router_rounds.specs.Acts.{count_round};
-ghost use Rattle.router_rounds.specs.InWords.{Words, tally, uncounted, counted, added};
+ghost use Rattle.router_rounds.specs.InWords.{Words, tally, counted, added};
 
 use crate::Totals;
 
@@ -15,17 +15,6 @@ pub(crate) enum Deed {
 }
 
 impl Totals {
-    pub(crate) fn none() -> Totals
-        ensures { result ≡ uncounted }
-    {
-        Totals {
-            rounds: 0,
-            moved: 0,
-            errors: 0,
-            changed: false,
-        }
-    }
-
     // A round begins: it is counted, and has changed nothing yet.
     #[tactic(auto, unfolding(crate::specs::Acts::count_round))]
     pub(crate) fn begin_round(&mut self)

@@ -47,7 +47,7 @@ fn grant(state: &mut Words, o: usize, i: usize)
 pub(crate) fn grant_all(state: &mut Words) -> Totals
     ensures { (c : Totals) (area : List ℕ) → tally (added c result) (kept state.new area) ≡ part2 in_words (tally c (kept state.old area)) }
 {
-    let mut done = Totals::none();
+    let mut done = Totals::default();
     'outputs: for o in 0..PORTS {
         let output = router_ports::output_at(state, o);
         if output.owner.is_some() {

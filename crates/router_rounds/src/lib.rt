@@ -20,7 +20,7 @@ mod quiet;
 
 // What a part of a round, or a run, has counted, and whether it changed anything: a run's last round. As wide as a
 // register, so that a count stays in one.
-#[derive(Clone, Copy, Debug, PartialEq, Eq)]
+#[derive(Clone, Copy, Debug, Default, PartialEq, Eq)]
 pub struct Totals {
     pub rounds: usize,
     pub moved: usize,
@@ -36,7 +36,7 @@ fn read_and_grant(state: &mut Words, area: &[u16], table: &Table) -> Totals
     ensures { (c : Totals) → tally (added c result) (kept state.new area.now) ≡ part2 in_words (part1 in_words table.now (tally c (kept state.old area.now))) }
 {
     if !quiet::some_stir(state) {
-        return Totals::none();
+        return Totals::default();
     }
     let mut done = addresses::read_all(state, area, table);
     done.add(grants::grant_all(state));
@@ -57,7 +57,7 @@ pub fn run_in_place(state: &mut Words, area: &mut [u16], table: &Table, limit: u
     ensures area_after { tally result (kept state.new area.new) ≡ rounds in_words table.now limit (begun (kept state.old area.old)) }
     ensures rounds_bound { (result.rounds < 2 ^ 32) × (result.moved < 2 ^ 32) × (result.errors < 2 ^ 32) }
 {
-    let mut totals = Totals::none();
+    let mut totals = Totals::default();
     for _ in 0..limit {
         totals.begin_round();
         totals.add(one_round(state, area, table));

@@ -85,7 +85,7 @@ fn send(state: &mut Words, area: &mut [u16], i: usize) -> Deed
 pub(crate) fn send_all(state: &mut Words, area: &mut [u16]) -> Totals
     ensures { (c : Totals) → tally (added c result) (kept state.new area.new) ≡ part3 in_words (tally c (kept state.old area.old)) }
 {
-    let mut done = Totals::none();
+    let mut done = Totals::default();
     for i in 0..PORTS {
         done.count(send(state, area, i));
     }

@@ -1,8 +1,8 @@
 -- Part 2 behind part 1; where nothing stirs, both leave all as it is.
-use Rattle.std.proofs.Common.{arith, sym, ap, ◌∙◌}
+use Rattle.std.proofs.Common.{rules, ◌≡◌, arith, sym, ap, ◌∙◌}
 use Rattle.router_rounds.specs.Addresses.{part1}
 use Rattle.router_rounds.specs.Grants.{part2}
-use Rattle.router_rounds.specs.InWords.{kept, in_words, tally}
+use Rattle.router_rounds.specs.InWords.{kept, in_words, tally, uncounted}
 use Rattle.router_rounds.specs.declared.Totals.{Totals}
 use Rattle.router_rounds.proofs.CountLaws.{part1_adds, part2_adds}
 use Rattle.router_rounds.proofs.GrantLaws.{reads_still, grants_still, none_stirs, none_waits}
@@ -14,8 +14,9 @@ returns-then-not-some_stir c =
     let a = c.args in
     let w = kept a.state.now a.area.now in
     let still = sym c.some_stir.ensures ∙ c.if-not-some_stir.true in
+    let nothing : c.default.result ≡ uncounted = search rules in
     λ k.
-    rw c.none.ensures (
+    rw nothing (
     ap (λ (d : Totals). tally d w) (added_none k)
     ∙ sym (ap (part2 in_words) (reads_still in_words (tally k w) (none_stirs a.state.now still) a.table.now)
     ∙ grants_still in_words (tally k w) (none_waits a.state.now still))

@@ -1,13 +1,14 @@
 -- One round more, from the invariant on: its counts are few, and where it changed nothing the run is over.
-use Rattle.std.proofs.Common.{◌^◌, ◌<◌, arith}
-use Rattle.router_rounds.specs.InWords.{kept}
+use Rattle.std.proofs.Common.{rules, ◌≡◌, ◌^◌, ◌<◌, arith}
+use Rattle.router_rounds.specs.InWords.{kept, uncounted}
 use Rattle.router_rounds.proofs.RunLaws.{none_ran, all_ran, few_more, one_ran, last_ran}
 use Rattle.router_rounds.proofs.run_in_place.Goals as goal
 
 pub loop-init : goal.loop-init
 loop-init c =
     let a = c.args in
-    rw c.none-totals.ensures (none_ran a.table.now a.limit (kept a.state.now a.area.now))
+    let nothing : c.default-totals.result ≡ uncounted = search rules in
+    rw nothing (none_ran a.table.now a.limit (kept a.state.now a.area.now))
 
 pub add-requires : goal.add-requires
 add-requires c =
