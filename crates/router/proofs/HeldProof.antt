@@ -2,11 +2,12 @@
 -- Assumes nothing.
 use Rattle.std.specs.Prelude.{Option, None, Some}
 use mathlib.Core.Path.{◌≡◌, refl, sym, ap, ◌∙◌}
-use mathlib.Core.Bool.{Bool, true, false, not, ◌&&◌, ◌||◌, or-false}
+use mathlib.Core.Bool.{Bool, true, false, not, ◌||◌, or-false}
 use Prim.Native.Nat.{ℕ, ◌<◌}
 use native.Mathlib.Nat.{zero-add}
 use native.Mathlib.Omega.{arith}
 use lib.Dec.{eqb, leb}
+use Rattle.std.proofs.lemmas.Bool.{and_parts}
 use borrow.Author.Tests.{eqb-true, eqb-false, leb-true}
 use Rattle.vocabulary.specs.Choice.{pick}
 use Rattle.router_ports.specs.Ports.{input_store, output_store, wants, mode_at, output_at, store_at}
@@ -51,10 +52,6 @@ either_priority port Spilling = refl
 
 -- the mark `nothing`
 
-both_hold : (a b : Bool) → a && b ≡ true → (a ≡ true) × (b ≡ true)
-both_hold true b h = (refl, h)
-both_hold false b h = (h, cc)
-
 in_says : (m : Mode) (unmoved : ℕ) → nothing_at_input m unmoved ≡ true → (m ≡ Idle) × (unmoved ≡ 0)
 in_says Idle unmoved h = (refl, eqb-true unmoved 0 h)
 in_says (Waiting w) unmoved h = (cc, cc)
@@ -64,7 +61,7 @@ in_says Spilling unmoved h = (cc, cc)
 out_says : (w : Option ℕ) (untaken wanted : ℕ) → nothing_at_output w untaken wanted ≡ true →
     (w ≡ None) × (untaken ≡ 0) × (wanted ≡ 0)
 out_says None untaken wanted h =
-    let two = both_hold (eqb untaken 0) (eqb wanted 0) h in
+    let two = and_parts (eqb untaken 0) (eqb wanted 0) h in
     (refl, eqb-true untaken 0 two.0, eqb-true wanted 0 two.1)
 out_says (Some i) untaken wanted h = (cc, cc, cc)
 
@@ -72,7 +69,7 @@ mark_means : (s : Router) (port : ℕ) → nothing_held s port ≡ true → Noth
 unfolding nothing_held
 mark_means s port h =
     let two =
-    both_hold (nothing_at_input (mode_at s port) (store_at s (input_store port)).len)
+    and_parts (nothing_at_input (mode_at s port) (store_at s (input_store port)).len)
     (nothing_at_output (output_at s port).owner (store_at s (output_store port)).len (wanted_by s port)) h in
     let input = in_says (mode_at s port) (store_at s (input_store port)).len two.0 in
     let output =
