@@ -1,5 +1,6 @@
 // The router (01, The router): put, take, run, the rows of its table, and what is still held through a port, on the
-// words that keep it. A refused call leaves words, area and table as they were.
+// words that keep it. A refused call leaves words, area and table as they were. These are three parameters, and no struct,
+// since the C interface lends them so (`neftolek_router_run`), some to be changed and some to be read.
 #![tactic(auto)]
 
 ghost use Rattle.std.specs.Prelude.{◌≡◌, [], ◌∷◌};

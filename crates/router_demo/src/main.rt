@@ -41,6 +41,7 @@ impl From<io::Error> for Failure {
 }
 
 // A router with its stores and its table, fresh at first.
+// The incident's program has its own: one for both would be a library, whose calls each need a contract and a promise.
 #[derive(Drop)]
 struct Bench {
     words: Words,
@@ -100,16 +101,17 @@ impl Bench {
     }
 }
 
-fn routed(rt: &impl Print) -> Result<(), Failure> {
+// One input alone is put N-Chars.
+fn from_one_input(
+    rt: &impl Print,
+    name: &str,
+    port: u32,
+    nchars: &[u32],
+    limit: u32,
+) -> Result<(), Failure> {
     let mut bench = Bench::new();
-    bench.put_all(1, &[3, 65, 256])?;
-    bench.run(rt, "routed", 10)
-}
-
-fn astray(rt: &impl Print) -> Result<(), Failure> {
-    let mut bench = Bench::new();
-    bench.put_all(1, &[11, 256])?;
-    bench.run(rt, "address error", 10)
+    bench.put_all(port, nchars)?;
+    bench.run(rt, name, limit)
 }
 
 // Row 40 requests ports 2 and 4 and keeps the header: the lower free port first.
@@ -119,19 +121,6 @@ fn group(rt: &impl Print) -> Result<(), Failure> {
     bench.put_all(1, &[40, 66, 256])?;
     bench.put_all(2, &[40, 67, 256])?;
     bench.run(rt, "group", 10)
-}
-
-fn itself(rt: &impl Print) -> Result<(), Failure> {
-    let mut bench = Bench::new();
-    bench.put_all(5, &[5, 68, 257])?;
-    bench.run(rt, "to itself", 10)
-}
-
-// A packet to an invalid row is spilt through its end, and the next goes on.
-fn spilt(rt: &impl Print) -> Result<(), Failure> {
-    let mut bench = Bench::new();
-    bench.put_all(2, &[200, 1, 256, 7, 69, 256])?;
-    bench.run(rt, "spilt", 20)
 }
 
 // Input 2 waits for port 3 by row 50; that the row then requests port 4 does not change what it wants.
@@ -159,11 +148,12 @@ fn contention(rt: &impl Print) -> Result<(), Failure> {
 }
 
 fn main(rt: HostRuntime) -> Result<(), Failure> {
-    routed(&rt)?;
-    astray(&rt)?;
+    from_one_input(&rt, "routed", 1, &[3, 65, 256], 10)?;
+    from_one_input(&rt, "address error", 1, &[11, 256], 10)?;
     group(&rt)?;
-    itself(&rt)?;
-    spilt(&rt)?;
+    from_one_input(&rt, "to itself", 5, &[5, 68, 257], 10)?;
+    // A packet to an invalid row is spilt through its end, and the next goes on.
+    from_one_input(&rt, "spilt", 2, &[200, 1, 256, 7, 69, 256], 20)?;
     rewritten(&rt)?;
     contention(&rt)
 }
