@@ -25,8 +25,8 @@ refuses applies r answer = pick applies (Err r) (Ok answer)
 
 module _ {A : Type 0} (r : Refusal) (answer : A) where
   -- a test behind which the call goes on
-  pub past : {applies test : Bool} {given : A} {n later : ℕ} → applies ≡ test → Ok given ≡ refuses applies r answer → n ≡ later →
-      n ≡ pick test (number r) later
+  pub past : {applies test : Bool} {given : A} {n later : ℕ} →
+      applies ≡ test → Ok given ≡ refuses applies r answer → n ≡ later → n ≡ pick test (number r) later
   past {applies} {test} {given} {n} {later} is e h = by applies is e
     where
       by : (b : Bool) → b ≡ test → Ok given ≡ refuses b r answer → n ≡ pick test (number r) later
@@ -41,7 +41,8 @@ module _ {A : Type 0} (r : Refusal) (answer : A) where
       by false q = cc
 
   -- one that refuses it
-  pub stops : {applies test : Bool} {s : Refusal} (later : ℕ) → applies ≡ test → Err s ≡ refuses applies r answer → number s ≡ pick test (number r) later
+  pub stops : {applies test : Bool} {s : Refusal} (later : ℕ) →
+      applies ≡ test → Err s ≡ refuses applies r answer → number s ≡ pick test (number r) later
   stops {applies} {test} {s} later is e = by applies is e
     where
       by : (b : Bool) → b ≡ test → Err s ≡ refuses b r answer → number s ≡ pick test (number r) later
@@ -49,7 +50,8 @@ module _ {A : Type 0} (r : Refusal) (answer : A) where
       by false p q = cc
 
   -- and the last one
-  pub last : {applies test : Bool} (x : Result A Refusal) → applies ≡ test → x ≡ refuses applies r answer → refusal_in x ≡ pick test (number r) 0
+  pub last : {applies test : Bool} (x : Result A Refusal) →
+      applies ≡ test → x ≡ refuses applies r answer → refusal_in x ≡ pick test (number r) 0
   last {applies} {test} x is e = by applies is e
     where
       by : (b : Bool) → b ≡ test → x ≡ refuses b r answer → refusal_in x ≡ pick test (number r) 0

@@ -23,12 +23,13 @@ pub struct Sent {
     pub token: Option<Token>,
 }
 
+// A token by its number and value, zeros for none.
 impl From<Sent> for [u32; 3] {
     ghost from_gives = { λ sent words. words ≡ sent_words sent };
 
     fn from(sent: Sent) -> [u32; 3] {
-        let kind = send::sent_kind(sent.token);
-        let value = send::sent_value(sent.token);
+        let kind = sent.token.map_or(0, vocabulary::kind);
+        let value = sent.token.map_or(0, vocabulary::value);
         [sent.discarded, u32::from(kind), u32::from(value)]
     }
 }
@@ -111,7 +112,12 @@ pub fn control(
 
 // The token that is due.
 pub fn send(words: &mut Words, rx: &mut [u16], tx: &[u16]) -> Result<Sent, Refusal>
-    ensures { record { refusal = refusal_in result; state = words.new; places = rx.new; out = sent_words (answer_in nothing_sent result) }
+    ensures { record {
+      refusal = refusal_in result;
+      state = words.new;
+      places = rx.new;
+      out = sent_words (answer_in nothing_sent result);
+    }
         ≡ send_left words.old rx.old tx.now }
 {
     tested::both(words, rx.len(), tx.len())?;
@@ -146,7 +152,13 @@ pub fn receive(
     kind: u32,
     value: u32,
 ) -> Result<Received, Refusal>
-    ensures { record { refusal = refusal_in result; state = words.new; rx = rx.new; time = time.new; out = received_words (answer_in nothing_received result) }
+    ensures { record {
+      refusal = refusal_in result;
+      state = words.new;
+      rx = rx.new;
+      time = time.new;
+      out = received_words (answer_in nothing_received result);
+    }
         ≡ receive_left words.old rx.old tx.now time.old kind value }
 {
     refuse(refusals::bad_time(time), Refusal::State)?;

@@ -7,26 +7,13 @@ ghost use Rattle.vocabulary.specs.declared.Token.{Token};
 ghost use Rattle.link.specs.Records.{Link};
 ghost use Rattle.link.specs.Ends.{with_offer};
 ghost use Rattle.link.specs.Credit.{with_given};
-ghost use Rattle.link.specs.Send.{sent_kind, sent_value, grants, has_n_char, choice_in_run, choice_with};
+ghost use Rattle.link.specs.Send.{grants, has_n_char, choice_in_run, choice_with};
 ghost use Rattle.link.specs.Send.{choice, null_sent, n_char_sent, booked_token, booked};
 ghost use Rattle.link.specs.InPlace.{ReadsGood, Writes, WritesGood, SmallEnough};
 
 use crate::fields::{CODE, NULL_SENT, OFFERED, RX, SENT, TX, Words};
 use crate::{LinkState, fields};
 use vocabulary::Token;
-
-// What is sent, by number: 0 nothing, else the token's.
-pub(crate) fn sent_kind(s: Option<Token>) -> u8
-    ensures { result ≡ sent_kind s }
-{
-    s.map_or(0, vocabulary::kind)
-}
-
-pub(crate) fn sent_value(s: Option<Token>) -> u16
-    ensures { result ≡ sent_value s }
-{
-    s.map_or(0, vocabulary::value)
-}
 
 fn grants_fct(words: &Words, size: usize) -> bool
     ensures { ReadsGood words.now (grants size) result }

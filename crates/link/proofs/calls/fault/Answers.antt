@@ -33,7 +33,8 @@ returns c =
     let passed = both a.words.now (length a.rx.now) (length a.tx.now) (sym c.in_ok-both.ensures) in
     let known = fault a.words.now (length a.rx.now) (length a.tx.now) a.kind
     (sym (past_both c.in_ok-both.ensures (past CHAR _ refl c.in_ok-try_from.ensures refl))) in
-    let event = c.fault_event-event.ensures _ passed.0.own ∙ ap (fault_event (link_of a.words.now)) (answers CHAR _ (no_fault a.kind) c.in_ok-try_from.ensures) in
+    let event = c.fault_event-event.ensures _ passed.0.own
+    ∙ ap (fault_event (link_of a.words.now)) (answers CHAR _ (no_fault a.kind) c.in_ok-try_from.ensures) in
     let left = c.settle.ensures passed.1 passed.2 _ passed.0.own in
     rw (left.0, left.1, left.2, named a.kind known.1 (end_of a.words.now a.rx.now a.tx.now), event)
     (sym (accepted_left a.words.now a.rx.now a.tx.now _ passed.0.is_link_lem passed.0.passes))
