@@ -8,7 +8,7 @@ use Rattle.router_ports.specs.Ports.{mode_at, output_at}
 use Rattle.router_ports.specs.Refusals.{is_owner, is_routed}
 use Rattle.router_ports.specs.RouterWords.{row_in, router_of}
 use Rattle.router_ports.specs.StateWords.{held_by, routed_to, bad_mode, bad_owner, bad_input_in, bad_output_in, bad_port_in}
-use Rattle.router_ports.proofs.RowLaws.{word, first, row_within}
+use Rattle.router_ports.proofs.RowLaws.{row_is, row_within}
 use Rattle.router_ports.proofs.StateWordsLaws.{held_is, routed_to_is}
 
 module _ (words : List ℕ) where
@@ -36,9 +36,7 @@ module _ (words : List ℕ) where
         let e : 0 + 3 * p ≡ 3 * p = omega arith in
         rw (
           lt-ltb p 11 (row_within 0 words p row is),
-          first 0 words p row is (3 * p) e,
-          word 0 words p row is (3 * p) e 1 (omega arith),
-          word 0 words p row is (3 * p) e 2 (omega arith),
+          row_is 0 words p row is (3 * p) e,
           held_anywhere (word_at words (3 * p + 1)) p,
         )
 
@@ -51,9 +49,7 @@ module _ (words : List ℕ) where
         let e : 33 + 3 * p ≡ 3 * p + 33 = omega arith in
         rw (
           lt-ltb p 11 (row_within 33 words p row is),
-          first 33 words p row is (3 * p + 33) e,
-          word 33 words p row is (3 * p + 33) e 1 (omega arith),
-          word 33 words p row is (3 * p + 33) e 2 (omega arith),
+          row_is 33 words p row is (3 * p + 33) e,
           routed_anywhere (word_at words (3 * p + 33 + 1)) p,
         )
 

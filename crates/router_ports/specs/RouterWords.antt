@@ -1,6 +1,6 @@
 -- What the words of a router mean, and how they are written.
 -- Assumes nothing.
-use Rattle.std.specs.Prelude.{ℕ, zero, suc, ◌+◌, ◌-◌, ◌*◌, ◌/◌, ◌%◌, ◌^◌, ◌<◌, ◌≡◌, Bool, true, false, List, [], ◌∷◌, length, take, drop, eqb, ltb, Option, None, Some}
+use Rattle.std.specs.Prelude.{ℕ, zero, suc, ◌+◌, ◌-◌, ◌*◌, ◌/◌, ◌%◌, ◌^◌, ◌<◌, ◌≡◌, Bool, true, false, List, [], ◌∷◌, length, eqb, ltb, Option, None, Some}
 use Rattle.std.proofs.lemmas.List.Edits.{sets}
 use Rattle.vocabulary.specs.Choice.{pick}
 use Rattle.words.specs.Words.{word_at, truth_word, truth, narrow, same}
@@ -25,7 +25,10 @@ listed f from (suc count) = f from ∷ listed f (from + 1) count
 
 -- the row of a port, of rows of three words that begin `from`
 abbrev pub row_in : ℕ → List ℕ → ℕ → Option (List ℕ)
-row_in from words k = pick (ltb k PORTS) (Some (take 3 (drop (from + 3 * k) words))) None
+row_in from words k =
+    pick (ltb k PORTS)
+    (Some (word_at words (from + 3 * k) ∷ word_at words (from + 3 * k + 1) ∷ word_at words (from + 3 * k + 2) ∷ []))
+    None
 
 -- saved: the value of a waiting input is its set of ports, of a routed one its output
 abbrev pub mode_words : Mode → List ℕ

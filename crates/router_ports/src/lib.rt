@@ -59,6 +59,7 @@ const INPUT_ROWS: Rows = Rows { from: 0 };
 
 const OUTPUT_ROWS: Rows = Rows { from: OUTPUTS_AT };
 
+// Word by word: tried with `try_into` and `copy_from_slice` on a slice of the words, and changes of a port took four times as long.
 impl Rows {
     // The words of a row; none past the last.
     #[inline(always)]
@@ -69,16 +70,19 @@ impl Rows {
             return None;
         }
         let at = self.from + ROW_WORDS * k;
-        words[at..at + ROW_WORDS].try_into().ok()
+        Some([words[at], words[at + 1], words[at + 2]])
     }
 
+    #[tactic(auto, using(crate::proofs::RowLaws::row_written))]
     #[inline(always)]
     fn write(self, words: &mut Words, k: usize, row: [u32; 3])
         ensures { words.new ≡ pick (ltb k 11) (sets words.old (self.from + 3 * k) row) words.old }
     {
         if k < PORTS {
             let at = self.from + ROW_WORDS * k;
-            words[at..at + ROW_WORDS].copy_from_slice(&row);
+            words[at] = row[0];
+            words[at + 1] = row[1];
+            words[at + 2] = row[2];
         }
     }
 }
@@ -264,7 +268,7 @@ pub fn output_at(words: &Words, o: usize) -> Output
     }
 }
 
-// Tried as rows of two words, which are then read as one of 64 bits and taken apart: a round moves an N-Char a sixth slower.
+// Not as a row: two words as an array were read as one of 64 bits and taken apart, and a round moved an N-Char a sixth slower.
 #[tactic(auto, using(crate::proofs::PlaceWords::store_in_lem))]
 pub fn store_at(words: &Words, k: usize) -> Store
     ensures { result ≡ store_at (router_of words.now) k }
