@@ -49,7 +49,10 @@ pub fn neftolek_router_run(
     ensures { record { refusal = result; state = state.new; area = area.new; out = out.new }
         ≡ run_left state.old area.old table.now limit }
 {
-    words::answer(router::run(state, area, table, limit).map(answers::ran), out)
+    words::answer(
+        router::run(state, area, table, limit).map(answers::ran),
+        out,
+    )
 }
 
 pub fn neftolek_router_write_row(state: &Words, table: &mut Table, row: u32, value: u32) -> u32
