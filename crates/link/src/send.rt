@@ -67,6 +67,7 @@ pub(crate) fn choose(words: &Words, size: usize, tx: &[u16]) -> Option<Token>
     }
 }
 
+// Like `received::got_null` but for the mark: one line each.
 fn null_sent(words: &mut Words)
     ensures { Writes words.old null_sent words.new }
 {

@@ -328,7 +328,8 @@ fn part(area_len: usize, k: usize) -> Range<usize>
     k * size..k * size + size
 }
 
-// The front N-Char of store `k`, whose record this is.
+// The front N-Char of store `k`, whose record this is. This and the next two are three, and not one that takes the store's
+// method: what it answers and whether it writes to the places differs in each.
 pub fn front_of(st: Store, area: &[u16], k: usize) -> u16
     ensures { result ≡ pick (ltb k 22) (front_of (places_at area.now k) st) 0 }
 {

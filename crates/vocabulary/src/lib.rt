@@ -82,7 +82,7 @@ pub fn bad_char(t: Token) -> bool
     }
 }
 
-// A token's number: NULL 1, FCT 2, N-Char 3, Time-Code 4.
+// A token's number: NULL 1, FCT 2, N-Char 3, Time-Code 4. Number and value are functions and no `From`: each leaves the other out.
 pub fn kind(t: Token) -> u8
     ensures { result ≡ kind_of t }
 {

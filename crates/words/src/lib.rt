@@ -22,6 +22,7 @@ pub fn truth_word(b: bool) -> u32
     u32::from(b)
 }
 
+// What does not fit is cut off here, and in `narrow`: `TryFrom` would refuse it.
 pub fn byte(word: u32) -> u8
     ensures { result ≡ byte word }
 {
