@@ -1,5 +1,4 @@
 pub mod TableLaws
-pub mod TestLaws
 pub mod TestedLaws
 pub mod AnswerLaws
 pub mod FieldLaws

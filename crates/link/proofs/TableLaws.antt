@@ -38,7 +38,7 @@ next =
     ∷ (ErrorWait ∷ Ready ∷ Ready ∷ ErrorReset ∷ ErrorReset ∷ Run ∷ [])
     ∷ []
 
-pub number_small : (s : LinkState) → state_number s < 6
+number_small : (s : LinkState) → state_number s < 6
 number_small ErrorReset = omega arith
 number_small ErrorWait = omega arith
 number_small Ready = omega arith
@@ -174,16 +174,6 @@ module _ (s : LinkState) (c : Conditions) (column : ℕ) where
   pub first_done : 10 ≤ column → left column ≡ s
   unfolding first_from
   first_done h = let none : 10 - column ≡ 0 = omega arith in rw none
-
--- past the numbers of the others stands Run
-pub past_the_others : (n : ℕ) → 4 < n → state_of n ≡ Run
-past_the_others zero h = absurd (omega arith)
-past_the_others (suc zero) h = absurd (omega arith)
-past_the_others (suc (suc zero)) h = absurd (omega arith)
-past_the_others (suc (suc (suc zero))) h = absurd (omega arith)
-past_the_others (suc (suc (suc (suc zero)))) h = absurd (omega arith)
-past_the_others (suc (suc (suc (suc (suc zero))))) h = refl
-past_the_others (suc (suc (suc (suc (suc (suc n)))))) h = refl
 
 -- the conditions in the order in which they are looked at, by their columns
 abbrev waits : List Condition

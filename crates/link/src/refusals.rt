@@ -1,4 +1,5 @@
-// What the calls test (01, The ten refusals), each test by itself; `tested` makes them in the paper's order.
+// What the calls test (01, The ten refusals), each test by itself; `tested` makes them in the paper's order. Words are joined by
+// `|` and `&`: a branch for each word would cost more than the word.
 #![tactic(auto, unfolding(crate::specs::LinkWords::link_words, store::specs::StoreWords::store_of))]
 
 ghost use Rattle.std.specs.Prelude.{◌≡◌, ◌||◌, ◌&&◌, not, eqb, ltb, length};
