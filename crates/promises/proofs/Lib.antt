@@ -13,4 +13,5 @@ pub mod ExportAnswers
 pub mod ExactlyProofs
 pub mod StarredProofs
 pub mod WorthlessProofs
+pub mod WorthlessCallsProofs
 pub mod EnumsProofs

@@ -57,7 +57,7 @@ unfolding held_refused held_in
 held_answer (Ok held) = refl
 held_answer (Err r) = refl
 
-held_refusal : (x : Result Held Refusal) → (answered x).refusal ≡ refusal_in x
+pub held_refusal : (x : Result Held Refusal) → (answered x).refusal ≡ refusal_in x
 unfolding held_refused
 held_refusal (Ok held) = refl
 held_refusal (Err r) = refl

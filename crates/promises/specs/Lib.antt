@@ -3,4 +3,5 @@ pub mod Exactly
 pub mod Starred
 pub mod Promises
 pub mod Worthless
+pub mod WorthlessCalls
 pub mod Enums
