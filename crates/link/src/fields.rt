@@ -61,9 +61,15 @@ pub(crate) const OFFERED: usize = 14;
 pub(crate) const CODE: usize = 15;
 
 // The two stores, each in two words.
-pub(crate) const RX: usize = 16;
+#[derive(Clone, Copy)]
+pub(crate) struct StorePlace {
+    at: usize,
+    ghost within: { at < 19 },
+}
 
-pub(crate) const TX: usize = 18;
+pub(crate) const RX: StorePlace = StorePlace { at: 16 };
+
+pub(crate) const TX: StorePlace = StorePlace { at: 18 };
 
 // A truth is written only where it changes: words that are tested together are loaded together, and that load waits for
 // any store to one of them.
@@ -128,43 +134,39 @@ pub(crate) fn set_given(words: &mut Words, given: GivenOut)
     words[GIVEN_OUT] = u32::from(given.0);
 }
 
-// The store whose two words stand from `at` on, RX or TX.
+// The store whose two words stand there.
 #[tactic(auto, unfolding(store::specs::StoreWords::store_of))]
-pub(crate) fn store_at(words: &Words, at: usize) -> Store
-    requires { at < 19 }
-    ensures { (result ≡ store_in words.now at) × FitsStore result }
+pub(crate) fn store_at(words: &Words, place: StorePlace) -> Store
+    ensures { (result ≡ store_in words.now place.at) × FitsStore result }
 {
-    Store::from([words[at], words[at + 1]])
+    Store::from([words[place.at], words[place.at + 1]])
 }
 
-pub(crate) fn set_store(words: &mut Words, at: usize, s: Store)
-    requires { at < 19 }
-    ensures { FitsStore s → words.new ≡ with_store words.old at s }
+pub(crate) fn set_store(words: &mut Words, place: StorePlace, s: Store)
+    ensures { FitsStore s → words.new ≡ with_store words.old place.at s }
 {
     let [front, len] = <[u32; 2]>::from(s);
-    words[at] = front;
-    words[at + 1] = len;
+    words[place.at] = front;
+    words[place.at + 1] = len;
 }
 
 // One N-Char put into the store there, which has these places.
 #[tactic(auto, using(crate::proofs::StoreFits::put_fits))]
-pub(crate) fn put_at(words: &mut Words, at: usize, places: &mut [u16], n: u16)
-    requires { at < 19 }
+pub(crate) fn put_at(words: &mut Words, place: StorePlace, places: &mut [u16], n: u16)
     ensures { (SmallEnough places.old →
-        words.new ≡ with_store words.old at (put_store (length places.old) (store_in words.old at) n))
-        × (places.new ≡ put_places places.old (store_in words.old at) n) }
+        words.new ≡ with_store words.old place.at (put_store (length places.old) (store_in words.old place.at) n))
+        × (places.new ≡ put_places places.old (store_in words.old place.at) n) }
 {
-    let store = store_at(words, at);
-    set_store(words, at, store.put(places, n));
+    let store = store_at(words, place);
+    set_store(words, place, store.put(places, n));
 }
 
 // The first N-Char dropped from the store there.
 #[tactic(auto, using(crate::proofs::StoreFits::drop_fits))]
-pub(crate) fn drop_at(words: &mut Words, at: usize, places: &[u16])
-    requires { at < 19 }
+pub(crate) fn drop_at(words: &mut Words, place: StorePlace, places: &[u16])
     ensures { SmallEnough places.now →
-        words.new ≡ with_store words.old at (without_first places.now (store_in words.old at)) }
+        words.new ≡ with_store words.old place.at (without_first places.now (store_in words.old place.at)) }
 {
-    let store = store_at(words, at);
-    set_store(words, at, store.drop_first(places));
+    let store = store_at(words, place);
+    set_store(words, place, store.drop_first(places));
 }
