@@ -12,6 +12,7 @@ pub mod WordsAnswers
 pub mod ExportAnswers
 pub mod ExactlyProofs
 pub mod StarredProofs
+pub mod WorthlessLeft
 pub mod WorthlessProofs
 pub mod WorthlessCallsProofs
 pub mod EnumsProofs
