@@ -126,7 +126,7 @@ fn waiting(number: u32, value: u32) -> Waiting
     ensures { (w : Waiting) → FitsWaiting w → bad_waiting w ≡ false →
         number ≡ waiting_number w → value ≡ waiting_value w → result ≡ w }
 {
-    match words::token_of(number, value) {
+    match words::named_token(number, value) {
         Ok(token) => Waiting::Whole(token),
         Err(_) => {
             if number == ESC {

@@ -105,7 +105,7 @@ pub fn encode(words: &mut Words, kind: u32, value: u32) -> Result<Bits, Refusal>
         ≡ encode_left words.old kind value }
 {
     let last = last_odd(*words)?;
-    let token = words::token_of(kind, value)?;
+    let token = words::named_token(kind, value)?;
     let (odd, bits) = sent(last, token);
     *words = [words::truth_word(odd)];
     Ok(bits)

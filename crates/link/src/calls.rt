@@ -164,7 +164,7 @@ pub fn receive(
 {
     refuse(refusals::bad_time(time), Refusal::State)?;
     tested::both(words, rx.len(), tx.len())?;
-    let token = words::token_of(kind, value)?;
+    let token = words::named_token(kind, value)?;
     let heard = received::token(words, rx, time_in(time), token);
     set_time(time, heard.time);
     let discarded = recovery::settle(heard.event, words, rx, tx);

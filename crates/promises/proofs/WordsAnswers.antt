@@ -15,6 +15,8 @@ use Rattle.words.proofs.answer.Kinds as answer_kinds
 use Rattle.words.proofs.answer.Reads as answer_reads
 use Rattle.words.proofs.fitted.Kinds as fitted_kinds
 use Rattle.words.proofs.fitted.Reads as fitted_reads
+use Rattle.words.proofs.named_token.Kinds as named_token_kinds
+use Rattle.words.proofs.named_token.Reads as named_token_reads
 use Rattle.words.proofs.token_of.Kinds as token_of_kinds
 use Rattle.words.proofs.token_of.Reads as token_of_reads
 
@@ -43,3 +45,6 @@ fitted κs a x y s t p q = p ∙ sym q
 
 pub token_of : OneResult 0 token_of_kinds.ps token_of_kinds.r token_of_reads.Post
 token_of κs a x y s t p q = p ∙ sym q
+
+pub named_token : OneResult 0 named_token_kinds.ps named_token_kinds.r named_token_reads.Post
+named_token κs a x y s t p q = p ∙ sym q

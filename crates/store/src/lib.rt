@@ -8,7 +8,8 @@ ghost use Rattle.store.specs.Changes.{fresh_store, put_store, put_places, front_
 ghost use Rattle.store.specs.Changes.{without_first, without_found, found_in, found};
 ghost use Rattle.store.specs.StoreWords.{store_words, store_of};
 
-// Where the first waiting N-Char stands, and how many wait.
+// Where the first waiting N-Char stands, and how many wait. The places are lent to each method that needs them: whoever keeps the
+// record, C too, keeps them apart.
 #[derive(Clone, Copy, Debug, PartialEq, Eq)]
 pub struct Store {
     pub front: usize,
@@ -143,6 +144,7 @@ impl Store {
         requires { bad_store (length places.now) self ≡ false }
         ensures { result ≡ found_in (waiting places.now self) }
     {
+        // No count: it goes around the ring.
         let mut at = self.front;
         for passed in 0..self.len {
             if vocabulary::is_end(places[at]) {

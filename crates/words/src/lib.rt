@@ -1,15 +1,15 @@
 // Truths, numbers and tokens as words of 32 bits.
 #![tactic(auto)]
 
-ghost use Rattle.std.specs.Prelude.{◌≡◌, false, replicate};
+ghost use Rattle.std.specs.Prelude.{◌≡◌, replicate};
 ghost use Rattle.vocabulary.specs.Refusals.{refusal_in, answer_in};
-ghost use Rattle.vocabulary.specs.Tokens.{bad_char};
-ghost use Rattle.vocabulary.specs.declared.Token.TheVariants.{NChar};
 ghost use Rattle.words.specs.Words.{truth, truth_word, byte, narrow};
-ghost use Rattle.words.specs.Arguments.{fitted, bare, time_code, token_of, named};
+ghost use Rattle.words.specs.Arguments.{fitted, no_token, bare, time_code, token_of, named};
 
 use vocabulary::{Refusal, Token};
 
+// C's truth: 0 is false, anything else true. The library has no such conversion, and `truth_word` is the library's under the name
+// of its definition.
 pub fn truth(word: u32) -> bool
     ensures { result ≡ truth word }
 {
@@ -42,43 +42,46 @@ pub fn fitted(n: u32) -> u16
     u16::try_from(n).unwrap_or(u16::MAX)
 }
 
-// NULL or FCT, which come without a value.
-fn bare(t: Token, value: u32) -> Result<Token, Refusal>
-    ensures { bad_char t ≡ false → result ≡ named (bare t value) }
+// An N-Char above 257, which every call refuses as CHAR: what a number and a value are that name no token.
+fn no_token() -> Token
+    ensures { result ≡ no_token }
 {
-    vocabulary::refuse(value != 0, Refusal::Char)?;
-    Ok(t)
+    Token::NChar(u16::MAX)
 }
 
-fn n_char(value: u32) -> Result<Token, Refusal>
-    ensures { result ≡ named (NChar (fitted value)) }
+fn bare(t: Token, value: u32) -> Token
+    ensures { result ≡ bare t value }
 {
-    let n = fitted(value);
-    vocabulary::refuse(vocabulary::above_eep(n), Refusal::Char)?;
-    Ok(Token::NChar(n))
+    if value == 0 { t } else { no_token() }
 }
 
-fn time_code(value: u32) -> Result<Token, Refusal>
-    ensures { result ≡ named (time_code value) }
+fn time_code(value: u32) -> Token
+    ensures { result ≡ time_code value }
 {
-    match u8::try_from(value) {
-        Ok(code) => Ok(Token::TimeCode(code)),
-        Err(_) => Err(Refusal::Char),
-    }
+    u8::try_from(value).map_or(no_token(), Token::TimeCode)
 }
 
-// The token with this number and value: `token_of(3, 65)` is the data character 65. No other pair names one: CHAR.
+// The token with this number and value: `token_of(3, 65)` is the data character 65.
 #[tactic(auto, unfolding(crate::specs::Arguments::token_of))]
-pub fn token_of(kind: u32, value: u32) -> Result<Token, Refusal>
-    ensures { result ≡ named (token_of kind value) }
+pub fn token_of(kind: u32, value: u32) -> Token
+    ensures { result ≡ token_of kind value }
 {
     match kind {
         1 => bare(Token::Null, value),
         2 => bare(Token::Fct, value),
-        3 => n_char(value),
+        3 => Token::NChar(fitted(value)),
         4 => time_code(value),
-        _ => Err(Refusal::Char),
+        _ => no_token(),
     }
+}
+
+// The same, or CHAR where the number and the value name no token.
+pub fn named_token(kind: u32, value: u32) -> Result<Token, Refusal>
+    ensures { result ≡ named (token_of kind value) }
+{
+    let token = token_of(kind, value);
+    vocabulary::refuse(vocabulary::bad_char(token), Refusal::Char)?;
+    Ok(token)
 }
 
 // What a call answers, as C takes it: the refusal's number, and in `out` the other answers, zeros where it is refused.

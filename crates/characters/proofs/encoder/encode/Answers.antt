@@ -15,10 +15,10 @@ returns-in_err-token c =
     let p = err_from_is_err_and c.from_residual-in_err-token.result c.from_residual-in_err-token.ensures.1 in
     rw (p.1, p.2)
     (no_token c.args.words.now c.args.kind c.args.value (sym c.last_odd.ensures ∙ c.in_ok-last.was)
-    (sym c.token_of.ensures ∙ c.in_err-token.was))
+    (sym c.named_token.ensures ∙ c.in_err-token.was))
 
 pub returns : goal.returns
 returns c =
     rw c.truth_word.ensures
     (is_sent c.args.words.now c.args.kind c.args.value (sym c.last_odd.ensures ∙ c.in_ok-last.was)
-    (sym c.token_of.ensures ∙ c.in_ok-token.was) c.sent-odd.ensures)
+    (sym c.named_token.ensures ∙ c.in_ok-token.was) c.sent-odd.ensures)
