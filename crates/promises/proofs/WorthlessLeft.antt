@@ -1,21 +1,22 @@
 -- What the calls' definitions come to at the arguments that `Worthless` names: from C and from Rust the same is promised there.
 -- Assumes nothing.
-use Rattle.std.specs.Prelude.{◌≡◌, refl, true, false, ℕ, List, [], ◌∷◌}
+use Rattle.std.specs.Prelude.{◌≡◌, refl, ℕ, List, [], ◌∷◌, Some}
 use Rattle.vocabulary.specs.NChars.{EOP}
 use Rattle.vocabulary.specs.declared.Token.TheVariants.{Null, Fct}
 use Rattle.vocabulary.specs.Tokens.{kind_of}
 use Rattle.words.specs.Words.{word_at}
-use Rattle.characters.specs.declared.reports.Waiting.TheVariants.{Whole}
-use Rattle.characters.specs.States.{Parity, Fresh, Heard}
+use Rattle.characters.specs.States.{Fresh}
 use Rattle.characters.specs.DecoderWords.{decoder_words}
 use Rattle.characters.specs.EncoderWords.{encoder_words}
-use Rattle.link.specs.Ends.{with_stage}
 use Rattle.link.specs.LinkWords.{STATE, time_words}
 use Rattle.link.specs.LinkCalls.{controls_of}
-use Rattle.link.specs.Records.{Link}
-use Rattle.link.specs.declared.LinkState.TheVariants.{ErrorReset}
 use Rattle.router.specs.RouterCalls.{RouterLeft, row_refused}
 use Rattle.router.specs.Cases.{smallest, holding}
+use Rattle.promises.specs.WorthlessCalls.{bit14 as call_bit14, tick64 as call_tick64}
+use Rattle.promises.specs.Worthless.{bit14, tick64}
+use Rattle.characters.specs.Reports.{report_words}
+use Rattle.characters.specs.declared.reports.Report.TheVariants.{Got}
+use contract.Lifetimes.{Lfts}
 use Rattle.promises.specs.Worthless.{rx, tx, area, table, one_received, one_routed, in_run, waiting_to_send, discarding}
 use Rattle.words.specs.Arguments.{token_of}
 use Rattle.words.specs.Words.{same}
@@ -82,19 +83,18 @@ pub record Accepted : Type 0 where
   pub router_read : (row_left (router_words fresh_router) table 39).refusal ≡ 0
   pub router_held : (held_left (router_words fresh_router) 1).refusal ≡ 0
 
--- an end in ErrorReset that the next tick moves on
-abbrev pub timer_at63 : Link
-timer_at63 = with_stage fresh_link (record { state = ErrorReset; timer = 63; gotnull = false; nullsent = false })
-
 -- a run of so many rounds at most, with these N-Chars in input 1
 abbrev pub run_with : List ℕ → ℕ → RouterLeft
 run_with held limit = run_left (router_words (holding smallest 1 held).router) (holding smallest 1 held).area table limit
 
 -- what is reported, left or counted, where a build says NULL, stays, is idle later or invents
 pub record Told : Type 0 where
-  pub reported : (bit_left (decoder_words (Heard (Parity (Whole Fct) true) 0)) 0).out ≡ kind_of Fct ∷ 0 ∷ []
-  pub in_reset : word_at (link_words timer_at63) STATE ≡ 0
-  pub out_of_reset : word_at (tick_left (link_words timer_at63) rx tx).state STATE ≡ 1
+  pub reported : (κs : Lfts 2) → word_at (bit_left (bit14 κs).0.now (bit14 κs).1.0).out 0 ≡ kind_of Fct
+  pub in_reset : (κs : Lfts 4) → word_at (tick64 κs).0.now STATE ≡ 0
+  pub out_of_reset : (κs : Lfts 4) → word_at (tick_left (tick64 κs).0.now rx tx).state STATE ≡ 1
+  pub call_reported : (κs : Lfts 1) → (bit_left (call_bit14 κs).0.now (call_bit14 κs).1.0).out ≡ report_words (Some (Got Fct))
+  pub call_in_reset : (κs : Lfts 3) → word_at (call_tick64 κs).0.now STATE ≡ 0
+  pub call_out_of_reset : (κs : Lfts 3) → word_at (tick_left (call_tick64 κs).0.now rx tx).state STATE ≡ 1
   pub put : word_at (put_left (link_words discarding) tx 65).out 0 ≡ 1
   pub reset : word_at (reset_left (link_words (waiting_to_send 3 fresh_link)) rx tx).out 0 ≡ 3
   pub fault : word_at (fault_left (link_words (waiting_to_send 3 in_run)) rx tx 7).out 0 ≡ 2
@@ -134,9 +134,12 @@ come_to =
         router_held = refl;
       };
       told = record {
-        reported = refl;
-        in_reset = refl;
-        out_of_reset = refl;
+        reported = λ κs. refl;
+        in_reset = λ κs. refl;
+        out_of_reset = λ κs. refl;
+        call_reported = λ κs. refl;
+        call_in_reset = λ κs. refl;
+        call_out_of_reset = λ κs. refl;
         put = refl;
         reset = refl;
         fault = refl;
