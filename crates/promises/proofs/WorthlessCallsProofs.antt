@@ -51,7 +51,7 @@ fct_not_null e = absurd (omega (arith, ap kind_of e))
 
 saying_null : (build : Build Bit) → SaysOnlyNull build → BreaksAt Bit bit14 build
 saying_null build null κs kept =
-    let words = ap (λ (left : Left). left.out) kept ∙ come_to.told.reported in
+    let words = ap (λ (left : Left). left.out) kept ∙ come_to.told.call_reported κs in
     fct_not_null (null κs (bit14 κs) Fct (
     enums_numbered.report _ (Some (Got Fct)) (ap (λ (two : List ℕ). word_at two 0) words) (ap (λ (two : List ℕ). word_at two 1) words)
     ))
@@ -60,8 +60,8 @@ staying : (build : Build Tick) → StaysInErrorReset build → BreaksAt Tick tic
 staying build stays κs kept =
     absurd (omega (
       arith,
-      ap (λ (left : LinkLeft). word_at left.state 0) kept ∙ come_to.told.out_of_reset,
-      stays κs (tick64 κs) come_to.told.in_reset,
+      ap (λ (left : LinkLeft). word_at left.state 0) kept ∙ come_to.told.call_out_of_reset κs,
+      stays κs (tick64 κs) (come_to.told.call_in_reset κs),
     ))
 
 inventing : InventingCalls

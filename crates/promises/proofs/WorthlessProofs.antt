@@ -46,15 +46,15 @@ refusing_all =
 
 saying_null : (build : Build Bit) → SaysOnlyNull build → BreaksAt Bit bit14 build
 saying_null build null κs kept =
-    let kind = ap (λ (left : Left). word_at left.out 0) kept ∙ ap (λ (words : List ℕ). word_at words 0) come_to.told.reported in
+    let kind = ap (λ (left : Left). word_at left.out 0) kept ∙ come_to.told.reported κs in
     absurd (omega (arith, kind, null κs (bit14 κs) (omega (arith, kind)) (omega (arith, kind))))
 
 staying : (build : Build Tick) → StaysInErrorReset build → BreaksAt Tick tick64 build
 staying build stays κs kept =
     absurd (omega (
       arith,
-      ap (λ (left : LinkLeft). word_at left.state 0) kept ∙ come_to.told.out_of_reset,
-      stays κs (tick64 κs) come_to.told.in_reset,
+      ap (λ (left : LinkLeft). word_at left.state 0) kept ∙ come_to.told.out_of_reset κs,
+      stays κs (tick64 κs) (come_to.told.in_reset κs),
     ))
 
 inventing : Inventing
