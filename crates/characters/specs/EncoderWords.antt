@@ -29,8 +29,8 @@ no_encoder words = record { refusal = number STATE; state = words; out = 0 ∷ 0
 abbrev pub bits_words : Bits → List ℕ
 bits_words b = b.bits ∷ b.count ∷ []
 
-abbrev pub no_bits : Bits
-no_bits = record { bits = 0; count = 0 }
+abbrev pub nothing_encoded : Bits
+nothing_encoded = record { bits = 0; count = 0 }
 
 -- behind a body whose ones are odd or not this token leaves the ones odd or not, and is sent as these bits
 abbrev pub Sends : Bool → Token → Bool → Bits → Type 0

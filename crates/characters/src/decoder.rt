@@ -12,7 +12,7 @@ ghost use Rattle.characters.specs.DecoderWords.{FitsWaiting, Made, Takes, bit_le
 
 use crate::phases::Phase;
 use crate::reports::{Report, Waiting};
-use crate::{bits, decoder_tests};
+use crate::{bits, good_words};
 use vocabulary::{EEP, EOP, Refusal, Token};
 
 // A decoder is so many words. C owns them (`neftolek_decoder_bit` and its fellows), so they are an array and no struct with
@@ -69,7 +69,8 @@ fn stop(words: &mut Words, error: Report) -> Option<Report>
     Some(error)
 }
 
-// The next character begins; this much of the last waits.
+// The next character begins; this much of the last waits. It and `waiting` are no `From`: what waits is two words among the
+// seven, and no type of its own.
 fn between(waiting: Waiting) -> Words
     ensures { result ≡ phase_words (Between waiting) 0 }
 {
@@ -238,7 +239,7 @@ pub fn bit(words: &mut Words, bit: u32) -> Result<Option<Report>, Refusal>
         ≡ bit_left words.old bit }
 {
     let b = words::truth(bit);
-    match decoder_tests::phase_of(words)? {
+    match good_words::phase_of(words)? {
         Phase::Fresh => Ok(hunt(words, NO_BITS, b)),
         Phase::Hunting => {
             let places = words[PLACES];
@@ -272,7 +273,7 @@ pub fn tick(words: &mut Words) -> Result<Option<Report>, Refusal>
     ensures { record { refusal = refusal_in result; state = words.new; out = report_words (answer_in None result) }
         ≡ tick_left words.old }
 {
-    match decoder_tests::phase_of(words)? {
+    match good_words::phase_of(words)? {
         Phase::Fresh => Ok(None),
         Phase::Stopped => Err(Refusal::Stopped),
         _ => Ok(silent_tick(words)),

@@ -4,7 +4,7 @@ ghost use Rattle.vocabulary.specs.Choice.{pick};
 ghost use Rattle.vocabulary.specs.Refusals.{STATE, refusal_in, answer_in};
 ghost use Rattle.vocabulary.specs.declared.Token.TheVariants.{NChar};
 ghost use Rattle.characters.specs.Encoder.{fresh_encoder};
-ghost use Rattle.characters.specs.EncoderWords.{encoder_words, encoder_of, is_encoder, encode_left, bits_words, no_bits};
+ghost use Rattle.characters.specs.EncoderWords.{encoder_words, encoder_of, is_encoder, encode_left, bits_words, nothing_encoded};
 ghost use Rattle.characters.specs.EncoderWords.{Sends};
 
 use crate::bits;
@@ -101,7 +101,7 @@ fn sent(odd: bool, token: Token) -> (bool, Bits)
 // The token with this number and value, any words that C hands in, as bits. From fresh, 2 and 0, FCT, give the four bits
 // 0100, as the number 2.
 pub fn encode(words: &mut Words, kind: u32, value: u32) -> Result<Bits, Refusal>
-    ensures { record { refusal = refusal_in result; state = words.new; out = bits_words (answer_in no_bits result) }
+    ensures { record { refusal = refusal_in result; state = words.new; out = bits_words (answer_in nothing_encoded result) }
         ≡ encode_left words.old kind value }
 {
     let last = last_odd(*words)?;

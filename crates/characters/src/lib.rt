@@ -3,7 +3,7 @@
 
 mod bits;
 pub mod decoder;
-mod decoder_tests;
 pub mod encoder;
+mod good_words;
 mod phases;
 pub mod reports;

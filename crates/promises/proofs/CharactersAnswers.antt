@@ -8,7 +8,7 @@ use Rattle.vocabulary.proofs.RefusalLaws.{one_result}
 use Rattle.characters.specs.declared.reports.Report.{Report}
 use Rattle.characters.specs.declared.encoder.Bits.{Bits}
 use Rattle.characters.specs.Reports.{report_words}
-use Rattle.characters.specs.EncoderWords.{bits_words, no_bits}
+use Rattle.characters.specs.EncoderWords.{bits_words, nothing_encoded}
 use Rattle.promises.specs.OneAnswer.{OneResult, OnePlaces}
 use Rattle.promises.proofs.EnumsProofs.{enums_numbered}
 use Rattle.words.specs.Words.{Left, word_at}
@@ -63,7 +63,7 @@ encoder_fresh_words κs a x y s t p q = p ∙ sym q
 
 pub encoder_encode : OneResult 1 encoder_encode_kinds.ps encoder_encode_kinds.r encoder_encode_reads.Post
 encoder_encode κs a x y s t p q =
-    one_result no_bits x y (ap (λ (left : Left). left.refusal) (p ∙ sym q))
+    one_result nothing_encoded x y (ap (λ (left : Left). left.refusal) (p ∙ sym q))
     (one_bits _ _ (ap (λ (left : Left). left.out) (p ∙ sym q)))
 
 pub encoder_encode_words : OnePlaces 1 encoder_encode_kinds.ps encoder_encode_kinds.r encoder_encode_reads.Post

@@ -3,7 +3,7 @@
 use Rattle.std.proofs.Common.{rules}
 use Rattle.characters.proofs.GoodLaws.{unused_good, hunting_good, between_good, parity_good, data_good}
 use Rattle.characters.proofs.GoodLaws.{control_good, second_good}
-use Rattle.characters.proofs.decoder_tests.fits.Goals as goal
+use Rattle.characters.proofs.good_words.fits.Goals as goal
 
 pub returns-in-Fresh : goal.returns-in-Fresh
 returns-in-Fresh c = rw c.within.ensures (unused_good c.args.words.now (search rules) c.in-Fresh.is c.requires)
