@@ -115,7 +115,8 @@ pub enum Mode {
 }
 
 impl Mode {
-    // What an input does, by number: 0 idle, 1 waiting, 2 routed, 3 spilling.
+    // What an input does, by the number that C reads: 0 idle, 1 waiting, 2 routed, 3 spilling. No `From`, since it leaves out
+    // what the mode carries.
     pub fn number(self) -> u8
         ensures { result ≡ mode_number self }
     {
@@ -281,6 +282,7 @@ pub fn store_at(words: &Words, k: usize) -> Store
     }
 }
 
+// This and `set_output` are two public calls, each over a type of its own: what they share is `Rows::write`.
 #[tactic(auto, unfolding(crate::specs::RouterWords::with_mode_in))]
 pub fn set_mode(words: &mut Words, i: usize, m: Mode)
     ensures { words.new ≡ with_mode_in words.old i m }
@@ -404,7 +406,8 @@ fn is_routed_to(words: &Words, i: usize, o: usize) -> bool
     matches!(mode_at(words, i), Mode::Routed(output) if output == o)
 }
 
-// Whether the words of an input are those of no mode, or of one that is refused as STATE.
+// Whether the words of an input are those of no mode, or of one that is refused as STATE. It is of the words and not of a
+// `Mode`: words that mean no mode are refused here, and `Mode::from` reads them as idle, as `mode_of` says.
 fn bad_mode(words: &Words, i: usize, row: [u32; 3]) -> bool
     ensures { result ≡ bad_mode (word_at row 0) (word_at row 1) (word_at row 2) (is_owner (output_at (router_of words.now) (word_at row 1)).owner i) }
 {

@@ -37,7 +37,7 @@ pub enum Heading {
 }
 
 impl Heading {
-    // The number of a heading: 0 an end, 1 nowhere, 2 ports.
+    // The number of a heading: 0 an end, 1 nowhere, 2 ports. No `From`, since it leaves out what the heading carries.
     pub fn number(self) -> u8
         ensures { result ≡ heading_number self }
     {
@@ -86,7 +86,7 @@ fn written(value: u32) -> u32
     if ports == 0 {
         INVALID
     } else {
-        value / 536870912 * 536870912 + u32::from(ports)
+        ((value >> DELETES_AT) << DELETES_AT) + u32::from(ports)
     }
 }
 
