@@ -29,7 +29,7 @@ pub fn neftolek_link_tick(state: &mut Words, rx: &mut [u16], tx: &[u16], out: &m
     ensures { record { refusal = result; state = state.new; places = rx.new; out = out.new }
         ≡ tick_left state.old rx.old tx.now }
 {
-    words::answer(calls::tick(state, rx, tx).map(answers::alone), out)
+    words::answer(calls::tick(state, rx, tx).map(answers::one_word), out)
 }
 
 // To ErrorReset from any state, with both stores emptied.
@@ -37,7 +37,7 @@ pub fn neftolek_link_reset(state: &mut Words, rx: &mut [u16], tx: &[u16], out: &
     ensures { record { refusal = result; state = state.new; places = rx.new; out = out.new }
         ≡ reset_left state.old rx.old tx.now }
 {
-    words::answer(calls::reset(state, rx, tx).map(answers::alone), out)
+    words::answer(calls::reset(state, rx, tx).map(answers::one_word), out)
 }
 
 // A fault by the number of the decoder's report: `neftolek_link_fault(state, rx, n, tx, m, 5, out)` is a parity error.
@@ -51,7 +51,10 @@ pub fn neftolek_link_fault(
     ensures { record { refusal = result; state = state.new; places = rx.new; out = out.new }
         ≡ fault_left state.old rx.old tx.now kind }
 {
-    words::answer(calls::fault(state, rx, tx, kind).map(answers::alone), out)
+    words::answer(
+        calls::fault(state, rx, tx, kind).map(answers::one_word),
+        out,
+    )
 }
 
 // The three controls, all at once; any number but 0 is on.
@@ -68,7 +71,7 @@ pub fn neftolek_link_control(
         ≡ control_left state.old rx.old tx.now (controls_of disabled start auto) }
 {
     let answered = calls::control(state, rx, tx, disabled, start, auto);
-    words::answer(answered.map(answers::alone), out)
+    words::answer(answered.map(answers::one_word), out)
 }
 
 // The token that is due: `out` gets the discarded, the token's number, 0 for none, and its value.
@@ -103,7 +106,7 @@ pub fn neftolek_link_put(state: &mut Words, tx: &mut [u16], nchar: u32, out: &mu
     ensures { record { refusal = result; state = state.new; places = tx.new; out = out.new }
         ≡ put_left state.old tx.old nchar }
 {
-    words::answer(calls::put(state, tx, nchar).map(answers::alone), out)
+    words::answer(calls::put(state, tx, nchar).map(answers::one_word), out)
 }
 
 // The host takes an N-Char that was received: `out` gets the discarded, always 0, and the N-Char.
@@ -111,7 +114,10 @@ pub fn neftolek_link_take(state: &mut Words, rx: &[u16], out: &mut [u32; 2]) -> 
     ensures { record { refusal = result; state = state.new; out = out.new }
         ≡ take_left state.old rx.now }
 {
-    words::answer(calls::take(state, rx).map(answers::taken), out)
+    words::answer(
+        calls::take(state, rx).map(answers::with_none_discarded),
+        out,
+    )
 }
 
 // The host offers a Time-Code, which waits until the next send in Run: `out` gets the discarded, always 0.

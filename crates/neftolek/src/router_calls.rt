@@ -35,7 +35,12 @@ pub fn neftolek_router_take(state: &mut Words, area: &[u16], port: u32, out: &mu
     ensures { record { refusal = result; state = state.new; area = area.now; out = out.new }
         ≡ take_left state.old area.now port }
 {
-    words::answer(router::take(state, area, port).map(answers::routed), out)
+    words::answer(
+        router::take(state, area, port)
+            .map(u32::from)
+            .map(answers::one_word),
+        out,
+    )
 }
 
 // Rounds, at most `limit`: `out` gets how many were run, the N-Chars moved and the address errors met.
@@ -50,7 +55,7 @@ pub fn neftolek_router_run(
         ≡ run_left state.old area.old table.now limit }
 {
     words::answer(
-        router::run(state, area, table, limit).map(answers::ran),
+        router::run(state, area, table, limit).map(<[u32; 3]>::from),
         out,
     )
 }
@@ -67,5 +72,8 @@ pub fn neftolek_router_read_row(state: &Words, table: &Table, row: u32, out: &mu
     ensures { (result ≡ (row_left state.now table.now row).refusal)
         × (out.new ≡ (row_left state.now table.now row).value ∷ []) }
 {
-    words::answer(router::read_row(state, table, row).map(answers::alone), out)
+    words::answer(
+        router::read_row(state, table, row).map(answers::one_word),
+        out,
+    )
 }

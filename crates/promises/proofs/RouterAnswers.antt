@@ -29,6 +29,8 @@ use Rattle.router.proofs.still_held.Kinds as still_held_kinds
 use Rattle.router.proofs.still_held.Reads as still_held_reads
 use Rattle.router.proofs.held.ArrayU32WORDSFromHeld.from.Kinds as held_words_kinds
 use Rattle.router.proofs.held.ArrayU32WORDSFromHeld.from.Reads as held_words_reads
+use Rattle.router.proofs.ArrayU323FromRan.from.Kinds as ran_words_kinds
+use Rattle.router.proofs.ArrayU323FromRan.from.Reads as ran_words_reads
 
 -- the three numbers that a run tells are what it answers
 one_ran : (a b : Ran) → ran_words a ≡ ran_words b → a ≡ b
@@ -117,6 +119,9 @@ read_row κs a x y s t p q = one_result 0 x y (p.0 ∙ sym q.0) (p.1 ∙ sym q.1
 
 pub still_held : OneResult 1 still_held_kinds.ps still_held_kinds.r still_held_reads.Post
 still_held κs a x y s t p q = one_held x y (p.0 ∙ sym q.0)
+
+pub ran_in_words : OneResult 0 ran_words_kinds.ps ran_words_kinds.r ran_words_reads.Post
+ran_in_words κs a x y s t p q = p ∙ sym q
 
 pub held_words : OneResult 0 held_words_kinds.ps held_words_kinds.r held_words_reads.Post
 held_words κs a x y s t p q = p ∙ sym q

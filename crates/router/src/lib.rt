@@ -31,6 +31,14 @@ pub struct Ran {
     pub errors: u32,
 }
 
+impl From<Ran> for [u32; 3] {
+    ghost from_gives = { λ ran words. words ≡ ran_words ran };
+
+    fn from(ran: Ran) -> [u32; 3] {
+        [ran.rounds, ran.moved, ran.errors]
+    }
+}
+
 // Idle inputs, free outputs, empty stores.
 pub fn fresh(words: &mut Words)
     ensures { words.new ≡ router_words fresh_router }
