@@ -41,7 +41,7 @@ impl From<io::Error> for Failure {
 }
 
 // A router with its stores and its table, fresh at first.
-// The incident's program has its own: one for both would be a library, whose calls each need a contract and a promise.
+// The incident's program has its own, as it has its own `Failure`: a reader who starts from one program has all of it there.
 #[derive(Drop)]
 struct Bench {
     words: Words,

@@ -12,7 +12,8 @@ const PLACES: usize = 9;
 
 const AREA: usize = STORES * PLACES;
 
-// Why the program ends early: a call is refused, or a line cannot be written.
+// Why the program ends early: a call is refused, or a line cannot be written. The demo has its own: a reader who starts from
+// one program has all of it there.
 #[derive(Drop)]
 enum Failure {
     Refused(Refusal),
@@ -87,7 +88,7 @@ impl fmt::Display for Output {
     }
 }
 
-// A router with its stores and its table, fresh at first.
+// A router with its stores and its table, fresh at first. The demo has its own, as it has its own `Failure`.
 #[derive(Clone, Copy)]
 struct Bench {
     words: Words,

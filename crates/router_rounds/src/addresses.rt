@@ -64,6 +64,7 @@ fn address(state: &mut Words, area: &[u16], table: &Table, i: usize) -> Deed
     }
 }
 
+// Its loop and that of part 3 stay two: `send_all` in moves.rt says why.
 pub(crate) fn read_all(state: &mut Words, area: &[u16], table: &Table) -> Totals
     ensures { (c : Totals) → tally (added c result) (kept state.new area.now) ≡ part1 in_words table.now (tally c (kept state.old area.now)) }
 {

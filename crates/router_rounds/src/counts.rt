@@ -14,6 +14,7 @@ pub(crate) enum Deed {
     Move,
 }
 
+// Each function asks what its own sum needs, and no bound stands in the type: of two bounded totals the sum need not be.
 impl Totals {
     // A round begins: it is counted, and has changed nothing yet.
     #[tactic(auto, unfolding(crate::specs::Acts::count_round))]
