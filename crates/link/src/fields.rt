@@ -85,7 +85,7 @@ pub(crate) fn set_truth(words: &mut Words, at: usize, b: bool)
 
 // Any number past the others is read as Run's; only words that no end has hold one. The test of words has refused them by then,
 // so a `TryFrom` would have an error that cannot come.
-fn state_of(n: u32) -> LinkState
+pub(crate) fn state_of(n: u32) -> LinkState
     ensures { result ≡ state_of n }
 {
     match n {
