@@ -34,7 +34,7 @@ next =
     ∷ (5 ∷ 0 ∷ 5 ∷ 5 ∷ 5 ∷ 0 ∷ 5 ∷ 5 ∷ 0 ∷ 5 ∷ [])
     ∷ []
 
-pub number_small : (s : LinkState) → state_number s < 6
+number_small : (s : LinkState) → state_number s < 6
 number_small ErrorReset = omega arith
 number_small ErrorWait = omega arith
 number_small Ready = omega arith
@@ -91,6 +91,15 @@ table_right state column h k =
     subst (λ (r : ℕ). get_or (get_or next r []) column 0 ≡ state_number (table_at (state_of r) column)) row
     (subst (λ (c : ℕ). get_or (get_or next (n / 10) []) c 0 ≡ state_number (table_at (state_of (n / 10)) c)) place
     (entry_right n (omega arith)))
+
+-- the state by the number in a cell is what the table says there
+pub cell_state : (s : LinkState) (n column : ℕ) → n ≡ state_number s → column < 10 →
+    state_of (get_or (get_or next n []) column 0) ≡ table_at s column
+cell_state s n column is inside =
+    rw is
+    (ap state_of (table_right (state_number s) column (number_small s) inside)
+    ∙ state_of_number _
+    ∙ ap (λ (t : LinkState). table_at t column) (state_of_number s))
 
 abbrev pub bits : List Bool
 bits = true ∷ false ∷ []

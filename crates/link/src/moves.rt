@@ -87,6 +87,7 @@ fn holds(words: &Words, condition: Condition) -> bool
     }
 }
 
+#[tactic(auto, using(crate::proofs::TableLaws::cell_state))]
 fn look_up(state: LinkState, column: usize) -> LinkState
     requires { column < 10 }
     ensures { result ≡ table_at state column }
