@@ -4,9 +4,9 @@
 use mathlib.Core.Path.{◌≡◌, refl, sym, ap, subst, ◌∙◌}
 use mathlib.Core.Bool.{Bool, true, false}
 use mathlib.Core.List.{List, [], ◌∷◌}
-use Prim.Native.Nat.{ℕ, zero, suc, ◌+◌, ◌-◌, ◌≤◌, ◌<◌}
+use Prim.Native.Nat.{ℕ, zero, suc, ◌+◌, ◌-◌, ◌*◌, ◌/◌, ◌%◌, ◌≤◌, ◌<◌}
 use native.Mathlib.Omega.{arith}
-use lib.Dec.{T, eqb→eq}
+use lib.Dec.{T, eqb, eqb→eq}
 use lib.ListN.{get_or}
 use denote.Enum.Bare.{sameb}
 use denote.Enum.Declared.{tag_of}
@@ -15,7 +15,7 @@ use Rattle.link.specs.contracts.moves.Condition.{the_type as waits_type}
 use Rattle.link.specs.declared.moves.Condition.{Condition}
 use Rattle.link.specs.declared.moves.Condition.TheVariants.{Enabled, Exchanged, Disabled, AtLimit}
 use Rattle.vocabulary.specs.Choice.{pick}
-use Rattle.vocabulary.proofs.Below.{below, every, same, same_eq, each, each_at}
+use Rattle.vocabulary.proofs.Below.{below, same, same_eq, each, each_at}
 use Rattle.link.specs.Moves.{state_number, is_state, event_number, Conditions, state_after}
 use Rattle.link.specs.Table.{table_at, states, state_of, condition_number, column_holds, first_from, looked_up, SaysMoves, FindsFirstThatFits}
 use Rattle.link.specs.declared.LinkState.{LinkState}
@@ -24,18 +24,14 @@ use Rattle.link.specs.declared.Event.{Event}
 use Rattle.link.specs.declared.Event.TheVariants.{Quiet, Fault, GotFct, GotNChar, GotTimeCode, CreditError}
 
 -- the constants, as the code has them
-abbrev pub next : List (List LinkState)
+abbrev pub next : List (List ℕ)
 next =
-    (ErrorReset ∷ ErrorWait ∷ Ready ∷ Started ∷ Connecting ∷ Run ∷ [])
-    ∷ (ErrorReset ∷ ErrorReset ∷ ErrorReset ∷ ErrorReset ∷ ErrorReset ∷ ErrorReset ∷ [])
-    ∷ (ErrorReset ∷ ErrorReset ∷ ErrorReset ∷ ErrorReset ∷ Run ∷ Run ∷ [])
-    ∷ (ErrorReset ∷ ErrorReset ∷ ErrorReset ∷ ErrorReset ∷ ErrorReset ∷ Run ∷ [])
-    ∷ (ErrorReset ∷ ErrorReset ∷ ErrorReset ∷ ErrorReset ∷ ErrorReset ∷ Run ∷ [])
-    ∷ (ErrorReset ∷ ErrorWait ∷ Ready ∷ Started ∷ Connecting ∷ ErrorReset ∷ [])
-    ∷ (ErrorReset ∷ ErrorWait ∷ Started ∷ Started ∷ Connecting ∷ Run ∷ [])
-    ∷ (ErrorReset ∷ ErrorWait ∷ Ready ∷ Connecting ∷ Connecting ∷ Run ∷ [])
-    ∷ (ErrorReset ∷ ErrorWait ∷ Ready ∷ Started ∷ Connecting ∷ ErrorReset ∷ [])
-    ∷ (ErrorWait ∷ Ready ∷ Ready ∷ ErrorReset ∷ ErrorReset ∷ Run ∷ [])
+    (0 ∷ 0 ∷ 0 ∷ 0 ∷ 0 ∷ 0 ∷ 0 ∷ 0 ∷ 0 ∷ 1 ∷ [])
+    ∷ (1 ∷ 0 ∷ 0 ∷ 0 ∷ 0 ∷ 1 ∷ 1 ∷ 1 ∷ 1 ∷ 2 ∷ [])
+    ∷ (2 ∷ 0 ∷ 0 ∷ 0 ∷ 0 ∷ 2 ∷ 3 ∷ 2 ∷ 2 ∷ 2 ∷ [])
+    ∷ (3 ∷ 0 ∷ 0 ∷ 0 ∷ 0 ∷ 3 ∷ 3 ∷ 4 ∷ 3 ∷ 0 ∷ [])
+    ∷ (4 ∷ 0 ∷ 5 ∷ 0 ∷ 0 ∷ 4 ∷ 4 ∷ 4 ∷ 4 ∷ 0 ∷ [])
+    ∷ (5 ∷ 0 ∷ 5 ∷ 5 ∷ 5 ∷ 0 ∷ 5 ∷ 5 ∷ 0 ∷ 5 ∷ [])
     ∷ []
 
 number_small : (s : LinkState) → state_number s < 6
@@ -79,14 +75,31 @@ for_event f t GotNChar = each_at f events Quiet t 3 (omega arith)
 for_event f t GotTimeCode = each_at f events Quiet t 4 (omega arith)
 for_event f t CreditError = each_at f events Quiet t 5 (omega arith)
 
--- a cell is right: it is what its state's row says in its column
-abbrev right : LinkState → ℕ → Bool
-right s column = is_state (get_or (get_or next column []) (state_number s) ErrorReset) (table_at s column)
+-- an entry is right: it has the number of what its row says in its column
+abbrev right : ℕ → Bool
+right k = eqb (get_or (get_or next (k / 10) []) (k % 10) 0) (state_number (table_at (state_of (k / 10)) (k % 10)))
+
+entry_right : (k : ℕ) → k < 60 → get_or (get_or next (k / 10) []) (k % 10) 0 ≡ state_number (table_at (state_of (k / 10)) (k % 10))
+entry_right k h =
+    eqb→eq (get_or (get_or next (k / 10) []) (k % 10) 0) (state_number (table_at (state_of (k / 10)) (k % 10))) (below right 60 tt k h)
 
 pub table_right : SaysMoves next
-table_right s column h =
-    same_state (get_or (get_or next column []) (state_number s) ErrorReset) (table_at s column)
-    (below (right s) 10 (for_state (λ (s : LinkState). every (right s) 10) tt s) column h)
+table_right state column h k =
+    let n : ℕ = state * 10 + column in
+    let row : n / 10 ≡ state = omega arith in
+    let place : n % 10 ≡ column = omega arith in
+    subst (λ (r : ℕ). get_or (get_or next r []) column 0 ≡ state_number (table_at (state_of r) column)) row
+    (subst (λ (c : ℕ). get_or (get_or next (n / 10) []) c 0 ≡ state_number (table_at (state_of (n / 10)) c)) place
+    (entry_right n (omega arith)))
+
+-- the state by the number in a cell is what the table says there
+pub cell_state : (s : LinkState) (n column : ℕ) → n ≡ state_number s → column < 10 →
+    state_of (get_or (get_or next n []) column 0) ≡ table_at s column
+cell_state s n column is inside =
+    rw is
+    (ap state_of (table_right (state_number s) column (number_small s) inside)
+    ∙ state_of_number _
+    ∙ ap (λ (t : LinkState). table_at t column) (state_of_number s))
 
 abbrev pub bits : List Bool
 bits = true ∷ false ∷ []

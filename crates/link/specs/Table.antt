@@ -34,11 +34,11 @@ states = ErrorReset ∷ ErrorWait ∷ Ready ∷ Started ∷ Connecting ∷ Run �
 abbrev pub state_of : ℕ → LinkState
 state_of n = get_or states n Run
 
--- columns that say in each cell what the table says there
-abbrev pub SaysMoves : List (List LinkState) → Type 0
-SaysMoves columns =
-    (s : LinkState) (column : ℕ) → column < 10 →
-    get_or (get_or columns column []) (state_number s) ErrorReset ≡ table_at s column
+-- rows of numbers that say in each cell what the table says there
+abbrev pub SaysMoves : List (List ℕ) → Type 0
+SaysMoves rows =
+    (state column : ℕ) → state < 6 → column < 10 →
+    get_or (get_or rows state []) column 0 ≡ state_number (table_at (state_of state) column)
 
 -- the columns behind those of events
 abbrev pub condition_number : Condition → ℕ

@@ -127,8 +127,8 @@ pub fn send(words: &mut Words, rx: &mut [u16], tx: &[u16]) -> Result<Sent, Refus
     Ok(Sent { discarded, token })
 }
 
+// What a time record's words mean is said by this crate's definitions, so the two conversions are its own functions.
 #[tactic(auto, using(words::proofs::NumberLaws::byte_back), unfolding(crate::specs::LinkWords::time_of))]
-// These two are no `From`: the record is of `time`, and its words are an array.
 fn time_in(time: &TimeWords) -> Time
     ensures { word_at time.now 0 < 256 → result ≡ time_of time.now }
 {

@@ -83,9 +83,9 @@ pub(crate) fn set_truth(words: &mut Words, at: usize, b: bool)
     }
 }
 
-// Any number past the others is read as Run's; only words that no end has hold one. The test of words has refused them by then,
-// so a `TryFrom` would have an error that cannot come.
-fn state_of(n: u32) -> LinkState
+// Any number past the others is read as Run's; only words that no end has hold one, and no cell of the table of moves. The test
+// of words has refused them by then, so a `TryFrom` would have an error that cannot come.
+pub(crate) fn state_of(n: u32) -> LinkState
     ensures { result ≡ state_of n }
 {
     match n {
@@ -150,7 +150,7 @@ pub(crate) fn set_store(words: &mut Words, place: StorePlace, s: Store)
     words[place.at + 1] = len;
 }
 
-// One N-Char put into the store there, which has these places.
+// One N-Char put into the store there, which has these places: C's slices, of any length until they are tested.
 #[tactic(auto, using(crate::proofs::StoreFits::put_fits))]
 pub(crate) fn put_at(words: &mut Words, place: StorePlace, places: &mut [u16], n: u16)
     ensures { (SmallEnough places.old →

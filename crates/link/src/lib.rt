@@ -52,6 +52,7 @@ pub enum Event {
     CreditError,
 }
 
+// The link does not stand on the decoder, so it has three kinds of its own under the same numbers.
 #[derive(Clone, Copy, Debug, PartialEq, Eq)]
 pub enum FaultKind {
     ParityFault,

@@ -27,39 +27,16 @@ const CONDITIONS: [Condition; 4] = [
     Condition::AtLimit,
 ];
 
-// The next state: a column for each event, then for each condition, and in it a cell for each state. A state in its own cell
-// is no move.
-static NEXT: [[LinkState; 6]; 10] = [
-    // Nothing came.
-    [ErrorReset, ErrorWait, Ready, Started, Connecting, Run],
-    // A fault.
-    [
-        ErrorReset, ErrorReset, ErrorReset, ErrorReset, ErrorReset, ErrorReset,
-    ],
-    // An FCT.
-    [ErrorReset, ErrorReset, ErrorReset, ErrorReset, Run, Run],
-    // An N-Char.
-    [
-        ErrorReset, ErrorReset, ErrorReset, ErrorReset, ErrorReset, Run,
-    ],
-    // A Time-Code.
-    [
-        ErrorReset, ErrorReset, ErrorReset, ErrorReset, ErrorReset, Run,
-    ],
-    // A credit error.
-    [
-        ErrorReset, ErrorWait, Ready, Started, Connecting, ErrorReset,
-    ],
-    // Enabled.
-    [ErrorReset, ErrorWait, Started, Started, Connecting, Run],
-    // NULLs exchanged.
-    [ErrorReset, ErrorWait, Ready, Connecting, Connecting, Run],
-    // LinkDisabled.
-    [
-        ErrorReset, ErrorWait, Ready, Started, Connecting, ErrorReset,
-    ],
-    // The timer at its limit.
-    [ErrorWait, Ready, Ready, ErrorReset, ErrorReset, Run],
+// The next state for each state and kind of event, by number: a row for each state, a column for nothing, fault, FCT,
+// N-Char, Time-Code, credit error, then enabled, NULLs exchanged, LinkDisabled, timer at its limit. A state's own number is
+// no move. Document 01 names this form, numbers too.
+static NEXT: [[u8; 10]; 6] = [
+    [0, 0, 0, 0, 0, 0, 0, 0, 0, 1],
+    [1, 0, 0, 0, 0, 1, 1, 1, 1, 2],
+    [2, 0, 0, 0, 0, 2, 3, 2, 2, 2],
+    [3, 0, 0, 0, 0, 3, 3, 4, 3, 0],
+    [4, 0, 5, 0, 0, 4, 4, 4, 4, 0],
+    [5, 0, 5, 5, 5, 0, 5, 5, 0, 5],
 ];
 
 // Where a state's timer moves it.
@@ -99,6 +76,7 @@ fn at_limit(words: &Words) -> bool
     limit(fields::state_in(words)) <= words[TIMER]
 }
 
+// A match on four conditions: functions in an array would be function pointers, of which no contract speaks.
 fn holds(words: &Words, condition: Condition) -> bool
     ensures { Reads words.now (λ (l : Link). column_holds (conditions l) (condition_number condition)) result }
 {
@@ -110,11 +88,12 @@ fn holds(words: &Words, condition: Condition) -> bool
     }
 }
 
-fn look_up(column: usize, state: LinkState) -> LinkState
+#[tactic(auto, using(crate::proofs::TableLaws::cell_state))]
+fn look_up(state: LinkState, column: usize) -> LinkState
     requires { column < 10 }
     ensures { result ≡ table_at state column }
 {
-    NEXT[column][state as usize]
+    fields::state_of(u32::from(NEXT[state as usize][column]))
 }
 
 // Beside what came, the first condition that holds and whose cell is not the state itself.
@@ -124,7 +103,7 @@ fn first_other(words: &Words) -> LinkState
 {
     let state = fields::state_in(words);
     for condition in CONDITIONS {
-        let to = look_up(condition as usize, state);
+        let to = look_up(state, condition as usize);
         if to != state && holds(words, condition) {
             return to;
         }
@@ -138,7 +117,7 @@ pub(crate) fn next_state(e: Event, words: &Words) -> LinkState
     ensures { Reads words.now (λ (l : Link). next_state e l) result }
 {
     let state = fields::state_in(words);
-    let to = look_up(e as usize, state);
+    let to = look_up(state, e as usize);
     if to == state { first_other(words) } else { to }
 }
 

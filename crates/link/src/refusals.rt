@@ -1,5 +1,4 @@
-// What the calls test (01, The ten refusals), each test by itself; `tested` makes them in the paper's order. Words are joined by
-// `|` and `&`: a branch for each word would cost more than the word.
+// What the calls test (01, The ten refusals), each test by itself; `tested` makes them in the paper's order.
 #![tactic(auto, unfolding(crate::specs::LinkWords::link_words, store::specs::StoreWords::store_of))]
 
 ghost use Rattle.std.specs.Prelude.{◌≡◌, ◌||◌, ◌&&◌, not, eqb, ltb, length};
@@ -19,6 +18,13 @@ use crate::fields::{
     START, STATE, STORED, TAKEN, TIMER, TX, TimeWords, Words,
 };
 use crate::{LinkState, fields, moves};
+
+// How many places a receive store, a transmit store and any store may have.
+pub(crate) const LEAST_RX: usize = 9;
+
+pub(crate) const LEAST_TX: usize = 1;
+
+const MOST: usize = 4096;
 
 fn no_state(word: u32) -> bool
     ensures { result ≡ not (eqb word (state_number (state_of word))) }
@@ -43,17 +49,24 @@ fn no_offer(offered: u32, code: u32) -> bool
     }
 }
 
-// Whether the words are no end's: a number that no state, truth or waiting Time-Code has.
+// Whether the words are no end's: a number that no state, truth or waiting Time-Code has. The words are tested each by what it
+// may hold, so there is no one test to loop over.
 #[tactic(auto, using(crate::proofs::LinkLaws::no_link))]
 pub(crate) fn no_link(words: &Words) -> bool
     ensures { result ≡ not (is_link words.now) }
 {
-    let last = no_truth(words[DISCARDING]) | no_offer(words[OFFERED], words[CODE]);
-    let taken = no_truth(words[TAKEN]) | (no_truth(words[PUT]) | last);
-    let marks = no_truth(words[STORED]) | (no_truth(words[SENT]) | taken);
-    let controls = no_truth(words[DISABLED])
-        | (no_truth(words[START]) | (no_truth(words[AUTO]) | marks));
-    no_state(words[STATE]) | (no_truth(words[GOT_NULL]) | (no_truth(words[NULL_SENT]) | controls))
+    no_state(words[STATE])
+        | no_truth(words[GOT_NULL])
+        | no_truth(words[NULL_SENT])
+        | no_truth(words[DISABLED])
+        | no_truth(words[START])
+        | no_truth(words[AUTO])
+        | no_truth(words[STORED])
+        | no_truth(words[SENT])
+        | no_truth(words[TAKEN])
+        | no_truth(words[PUT])
+        | no_truth(words[DISCARDING])
+        | no_offer(words[OFFERED], words[CODE])
 }
 
 fn bad_held(state: LinkState, held: u32) -> bool
@@ -90,22 +103,17 @@ pub(crate) fn bad_record(words: &Words) -> bool
     }
 }
 
-pub(crate) fn bad_rx_size(size: usize) -> bool
-    ensures { result ≡ bad_rx_size size }
+// A store has from its least to 4096 places.
+pub(crate) fn bad_size(size: usize, least: usize) -> bool
+    ensures { result ≡ (ltb size least || ltb 4096 size) }
 {
-    (size < 9) | (4096 < size)
-}
-
-pub(crate) fn bad_tx_size(size: usize) -> bool
-    ensures { result ≡ bad_tx_size size }
-{
-    (size < 1) | (4096 < size)
+    (size < least) | (MOST < size)
 }
 
 pub(crate) fn bad_sizes(rx: usize, tx: usize) -> bool
     ensures { result ≡ (bad_rx_size rx || bad_tx_size tx) }
 {
-    bad_rx_size(rx) | bad_tx_size(tx)
+    bad_size(rx, LEAST_RX) | bad_size(tx, LEAST_TX)
 }
 
 // One free place more than is given out is needed.

@@ -32,7 +32,7 @@ pub(crate) fn put(words: &Words, tx: usize, nchar: u16) -> Result<(), Refusal>
     ensures { refusal_in result ≡ put_refused words.now tx nchar }
 {
     record(words)?;
-    refuse(refusals::bad_tx_size(tx), Refusal::Store)?;
+    refuse(refusals::bad_size(tx, refusals::LEAST_TX), Refusal::Store)?;
     refuse(refusals::bad_transmit(words, tx), Refusal::State)?;
     refuse(vocabulary::above_eep(nchar), Refusal::Char)?;
     refuse(refusals::no_place(words, tx), Refusal::Full)
@@ -43,7 +43,7 @@ pub(crate) fn take(words: &Words, rx: usize) -> Result<(), Refusal>
     ensures { refusal_in result ≡ take_refused words.now rx }
 {
     record(words)?;
-    refuse(refusals::bad_rx_size(rx), Refusal::Store)?;
+    refuse(refusals::bad_size(rx, refusals::LEAST_RX), Refusal::Store)?;
     refuse(refusals::bad_receive(words, rx), Refusal::State)?;
     refuse(refusals::is_empty(words), Refusal::Empty)
 }

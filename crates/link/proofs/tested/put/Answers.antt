@@ -12,14 +12,14 @@ returns-in_err-refuse c =
     refused _ _ c.from_residual-in_err-refuse.ensures
     (past_record c.args.words.now _ c.in_ok-record.ensures
     (λ own.
-    (stops STORE tt _ c.bad_tx_size.ensures c.in_err-refuse.ensures)))
+    (stops STORE tt _ c.bad_size.ensures c.in_err-refuse.ensures)))
 
 pub returns-in_err-refuse-2 : goal.returns-in_err-refuse-2
 returns-in_err-refuse-2 c =
     refused _ _ c.from_residual-in_err-refuse-2.ensures
     (past_record c.args.words.now _ c.in_ok-record.ensures
     (λ own.
-    (past STORE tt c.bad_tx_size.ensures c.in_ok-refuse.ensures
+    (past STORE tt c.bad_size.ensures c.in_ok-refuse.ensures
     (stops STATE tt _ (c.bad_transmit.ensures _ own) c.in_err-refuse-2.ensures))))
 
 pub returns-in_err-refuse-3 : goal.returns-in_err-refuse-3
@@ -27,7 +27,7 @@ returns-in_err-refuse-3 c =
     refused _ _ c.from_residual-in_err-refuse-3.ensures
     (past_record c.args.words.now _ c.in_ok-record.ensures
     (λ own.
-    (past STORE tt c.bad_tx_size.ensures c.in_ok-refuse.ensures
+    (past STORE tt c.bad_size.ensures c.in_ok-refuse.ensures
     (past STATE tt (c.bad_transmit.ensures _ own) c.in_ok-refuse-2.ensures
     (stops CHAR tt _ c.above_eep.ensures c.in_err-refuse-3.ensures)))))
 
@@ -35,7 +35,7 @@ pub returns : goal.returns
 returns c =
     past_record c.args.words.now _ c.in_ok-record.ensures
     (λ own.
-    (past STORE tt c.bad_tx_size.ensures c.in_ok-refuse.ensures
+    (past STORE tt c.bad_size.ensures c.in_ok-refuse.ensures
     (past STATE tt (c.bad_transmit.ensures _ own) c.in_ok-refuse-2.ensures
     (past CHAR tt c.above_eep.ensures c.in_ok-refuse-3.ensures
     (last FULL tt _ (c.no_place.ensures _ own) c.refuse-4.ensures)))))
