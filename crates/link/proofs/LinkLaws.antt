@@ -9,7 +9,6 @@ use lib.ListN.{length}
 use lib.Dec.{eqb}
 use borrow.Author.Tests.{eq-eqb}
 use Rattle.std.specs.Prelude.{Option, None, Some}
-use Rattle.std.proofs.Math.Bool.{or_assoc}
 use Rattle.vocabulary.specs.Choice.{pick}
 use Rattle.words.specs.Words.{word_at, truth, truth_word, byte, same}
 use Rattle.words.proofs.NumberLaws.{byte_back, truth_back}
@@ -105,9 +104,11 @@ by_members words other n long =
 itself : (w : ℕ) (rest : Bool) → eqb w w && rest ≡ rest
 itself w rest = rw (eq-eqb w w refl)
 
-not_both : (a b : Bool) → not (a && b) ≡ not a || not b
-not_both true b = refl
-not_both false b = refl
+not_both : (a b : Bool) → not (a && b) ≡ not b || not a
+not_both true true = refl
+not_both true false = refl
+not_both false true = refl
+not_both false false = refl
 
 -- words that no state, truth or waiting Time-Code has
 abbrev pub no_state : ℕ → Bool
@@ -121,20 +122,20 @@ no_offer n code = not (eqb n (offer_number (offer_of n code)) && eqb code (offer
 
 pub no_link : (words : List ℕ) → length words ≡ 20 →
     not (is_link words)
-    ≡ no_state (word_at words STATE)
-    || no_truth (word_at words GOT_NULL)
-    || no_truth (word_at words NULL_SENT)
-    || no_truth (word_at words DISABLED)
-    || no_truth (word_at words START)
-    || no_truth (word_at words AUTO)
-    || no_truth (word_at words STORED)
-    || no_truth (word_at words SENT)
-    || no_truth (word_at words TAKEN)
-    || no_truth (word_at words PUT)
+    ≡ no_offer (word_at words OFFERED) (word_at words CODE)
     || no_truth (word_at words DISCARDING)
-    || no_offer (word_at words OFFERED) (word_at words CODE)
+    || no_truth (word_at words PUT)
+    || no_truth (word_at words TAKEN)
+    || no_truth (word_at words SENT)
+    || no_truth (word_at words STORED)
+    || no_truth (word_at words AUTO)
+    || no_truth (word_at words START)
+    || no_truth (word_at words DISABLED)
+    || no_truth (word_at words NULL_SENT)
+    || no_truth (word_at words GOT_NULL)
+    || no_state (word_at words STATE)
 unfolding same link_words link_of stage_in controls_in credit_in marks_in store_of
-no_link words long = ap not (by_members words (link_words (link_of words)) 20 long) ∙ simp (itself, and-true, not_both, or_assoc)
+no_link words long = ap not (by_members words (link_words (link_of words)) 20 long) ∙ simp (itself, and-true, not_both)
 
 pub no_time : (time : List ℕ) → length time ≡ 2 → not (is_time time) ≡ no_truth (word_at time 1)
 unfolding same time_of

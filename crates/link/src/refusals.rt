@@ -55,18 +55,18 @@ fn no_offer(offered: u32, code: u32) -> bool
 pub(crate) fn no_link(words: &Words) -> bool
     ensures { result ≡ not (is_link words.now) }
 {
-    no_state(words[STATE])
-        | no_truth(words[GOT_NULL])
-        | no_truth(words[NULL_SENT])
-        | no_truth(words[DISABLED])
-        | no_truth(words[START])
-        | no_truth(words[AUTO])
-        | no_truth(words[STORED])
-        | no_truth(words[SENT])
-        | no_truth(words[TAKEN])
-        | no_truth(words[PUT])
+    no_offer(words[OFFERED], words[CODE])
         | no_truth(words[DISCARDING])
-        | no_offer(words[OFFERED], words[CODE])
+        | no_truth(words[PUT])
+        | no_truth(words[TAKEN])
+        | no_truth(words[SENT])
+        | no_truth(words[STORED])
+        | no_truth(words[AUTO])
+        | no_truth(words[START])
+        | no_truth(words[DISABLED])
+        | no_truth(words[NULL_SENT])
+        | no_truth(words[GOT_NULL])
+        | no_state(words[STATE])
 }
 
 fn bad_held(state: LinkState, held: u32) -> bool
