@@ -1,10 +1,12 @@
 // Truths, numbers and tokens as words of 32 bits.
 #![tactic(auto)]
 
-ghost use Rattle.std.specs.Prelude.{◌≡◌, replicate};
+ghost use Rattle.std.specs.Prelude.{◌≡◌, true, false, replicate};
 ghost use Rattle.vocabulary.specs.Refusals.{refusal_in, answer_in};
+ghost use Rattle.vocabulary.specs.Tokens.{bad_char};
+ghost use Rattle.vocabulary.specs.declared.Token.TheVariants.{NChar};
 ghost use Rattle.words.specs.Words.{truth, truth_word, byte, narrow};
-ghost use Rattle.words.specs.Arguments.{fitted, no_token, bare, time_code, token_of, named};
+ghost use Rattle.words.specs.Arguments.{fitted, bare, time_code, token_of, named};
 
 use vocabulary::{Refusal, Token};
 
@@ -42,46 +44,67 @@ pub fn fitted(n: u32) -> u16
     u16::try_from(n).unwrap_or(u16::MAX)
 }
 
-// An N-Char above 257, which every call refuses as CHAR: what a number and a value are that name no token.
-fn no_token() -> Token
-    ensures { result ≡ no_token }
+// NULL or FCT, which come without a value.
+#[inline(always)]
+fn bare(t: Token, value: u32) -> Result<Token, Refusal>
+    ensures { bad_char t ≡ false → result ≡ named (bare t value) }
 {
-    Token::NChar(u16::MAX)
+    vocabulary::refuse(value != 0, Refusal::Char)?;
+    Ok(t)
 }
 
-fn bare(t: Token, value: u32) -> Token
-    ensures { result ≡ bare t value }
+#[inline(always)]
+fn n_char(value: u32) -> Result<Token, Refusal>
+    ensures { result ≡ named (NChar (fitted value)) }
 {
-    if value == 0 { t } else { no_token() }
+    let n = fitted(value);
+    vocabulary::refuse(vocabulary::above_eep(n), Refusal::Char)?;
+    Ok(Token::NChar(n))
 }
 
-fn time_code(value: u32) -> Token
-    ensures { result ≡ time_code value }
+#[inline(always)]
+fn time_code(value: u32) -> Result<Token, Refusal>
+    ensures { result ≡ named (time_code value) }
 {
-    u8::try_from(value).map_or(no_token(), Token::TimeCode)
+    match u8::try_from(value) {
+        Ok(code) => Ok(Token::TimeCode(code)),
+        Err(_) => Err(Refusal::Char),
+    }
 }
 
-// The token with this number and value: `token_of(3, 65)` is the data character 65.
+// The token with this number and value: `named_token(3, 65)` is the data character 65. No other pair names one: CHAR.
 #[tactic(auto, unfolding(crate::specs::Arguments::token_of))]
-pub fn token_of(kind: u32, value: u32) -> Token
-    ensures { result ≡ token_of kind value }
+pub fn named_token(kind: u32, value: u32) -> Result<Token, Refusal>
+    ensures { result ≡ named (token_of kind value) }
 {
     match kind {
         1 => bare(Token::Null, value),
         2 => bare(Token::Fct, value),
-        3 => Token::NChar(fitted(value)),
+        3 => n_char(value),
         4 => time_code(value),
-        _ => no_token(),
+        _ => Err(Refusal::Char),
     }
 }
 
-// The same, or CHAR where the number and the value name no token.
-pub fn named_token(kind: u32, value: u32) -> Result<Token, Refusal>
-    ensures { result ≡ named (token_of kind value) }
+// What a number and a value are that name no token: the N-Char as it is read, or one that is none.
+#[tactic(auto, unfolding(crate::specs::Arguments::token_of))]
+fn unnamed(kind: u32, value: u32) -> Token
+    ensures { bad_char (token_of kind value) ≡ true → result ≡ token_of kind value }
 {
-    let token = token_of(kind, value);
-    vocabulary::refuse(vocabulary::bad_char(token), Refusal::Char)?;
-    Ok(token)
+    match kind {
+        3 => Token::NChar(fitted(value)),
+        _ => Token::NChar(u16::MAX),
+    }
+}
+
+// The same for any number and value: a pair that names no token is an N-Char above 257, which every call refuses as CHAR.
+pub fn token_of(kind: u32, value: u32) -> Token
+    ensures { result ≡ token_of kind value }
+{
+    match named_token(kind, value) {
+        Ok(token) => token,
+        Err(_) => unnamed(kind, value),
+    }
 }
 
 // What a call answers, as C takes it: the refusal's number, and in `out` the other answers, zeros where it is refused.
