@@ -76,7 +76,7 @@ fn at_limit(words: &Words) -> bool
     limit(fields::state_in(words)) <= words[TIMER]
 }
 
-// A match on four conditions: functions in an array would be function pointers, of which no contract speaks.
+// A match on four conditions: four functions in an array would each need the contract that this one has.
 fn holds(words: &Words, condition: Condition) -> bool
     ensures { Reads words.now (λ (l : Link). column_holds (conditions l) (condition_number condition)) result }
 {
