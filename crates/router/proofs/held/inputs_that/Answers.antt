@@ -1,6 +1,6 @@
 -- Each turn puts one more input below those of both sets.
 -- Assumes nothing.
-use Rattle.std.proofs.Common.{◌≡◌, ◌-◌, ◌∙◌, refl, sym, arith}
+use Rattle.std.proofs.Common.{◌≡◌, ◌-◌, ◌<◌, ◌∙◌, refl, sym, arith}
 use Rattle.router_ports.specs.Ports.{mode_at}
 use Rattle.router_ports.specs.RouterWords.{router_of}
 use Rattle.router.specs.Held.{awaits, unmoved_at, set_of, wanted_by, unread, sets_of}
@@ -19,7 +19,7 @@ one_more-unread-requires c = rw c.loop-i.invariant.1 (set_small _ c.loop-i.i (11
 
 pub loop-i-preserved : goal.loop-i-preserved
 loop-i-preserved c =
-    let some = c.loop-i-test.true in
+    let some : 0 < c.loop-i.i = omega (arith, c.loop-i-test.true) in
     let more = set_next (λ i. awaits c.args.port (mode_at (router_of c.args.words.now) i)) c.loop-i.i some c.loop-i.auto.i in
     let left = set_next (unmoved_at (router_of c.args.words.now)) c.loop-i.i some c.loop-i.auto.i in (
       c.one_more-wanted.ensures ∙ rw (c.loop-i.invariant.0, c.is_awaited.ensures) (sym more),
