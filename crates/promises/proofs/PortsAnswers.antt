@@ -10,6 +10,10 @@ use Rattle.router_ports.proofs.Mode.wanted.Kinds as mode_wanted_kinds
 use Rattle.router_ports.proofs.Mode.wanted.Reads as mode_wanted_reads
 use Rattle.router_ports.proofs.Mode.output.Kinds as mode_output_kinds
 use Rattle.router_ports.proofs.Mode.output.Reads as mode_output_reads
+use Rattle.router_ports.proofs.owner_number.Kinds as owner_number_kinds
+use Rattle.router_ports.proofs.owner_number.Reads as owner_number_reads
+use Rattle.router_ports.proofs.owner_input.Kinds as owner_input_kinds
+use Rattle.router_ports.proofs.owner_input.Reads as owner_input_reads
 use Rattle.router_ports.proofs.Wanted.wants.Kinds as wants_kinds
 use Rattle.router_ports.proofs.Wanted.wants.Reads as wants_reads
 use Rattle.router_ports.proofs.ArrayU323FromMode.from.Kinds as mode_words_kinds
@@ -71,6 +75,12 @@ mode_wanted κs a x y s t p q = p ∙ sym q
 
 pub mode_output : OneResult 0 mode_output_kinds.ps mode_output_kinds.r mode_output_reads.Post
 mode_output κs a x y s t p q = p ∙ sym q
+
+pub owner_number : OneResult 0 owner_number_kinds.ps owner_number_kinds.r owner_number_reads.Post
+owner_number κs a x y s t p q = p ∙ sym q
+
+pub owner_input : OneResult 0 owner_input_kinds.ps owner_input_kinds.r owner_input_reads.Post
+owner_input κs a x y s t p q = p ∙ sym q
 
 pub wants : OneResult 0 wants_kinds.ps wants_kinds.r wants_reads.Post
 wants κs a x y s t p q = p ∙ sym q

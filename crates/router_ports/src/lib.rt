@@ -219,6 +219,21 @@ impl From<[u32; 3]> for Output {
     }
 }
 
+// The owner of an output, by the number that C reads: 0 where the output is free, 1 where an input holds it. No `From`, since it
+// leaves out the input.
+pub fn owner_number(owner: Option<usize>) -> u8
+    ensures { result ≡ owner_number owner }
+{
+    u8::from(owner.is_some())
+}
+
+// The input that holds an output; 0 where it is free.
+pub fn owner_input(owner: Option<usize>) -> usize
+    ensures { result ≡ owner_input owner }
+{
+    owner.unwrap_or(0)
+}
+
 // Idle inputs, free outputs, empty stores.
 pub fn fresh(words: &mut Words)
     ensures { words.new ≡ router_words fresh_router }
