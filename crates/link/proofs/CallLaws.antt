@@ -46,20 +46,20 @@ number_left refusal true n done none accepted refused other = by (eqb n 0) refl
     by false e = refused
 
 -- once its refusal is known, a refused call leaves what its words, places and zeros say
-pub told : (left : LinkLeft) {words places zeros : List ℕ} (r : Refusal) → number r ≡ left.refusal →
-    StaysWith words places zeros left → record { refusal = number r; state = words; places = places; out = zeros } ≡ left
-told left r e stays =
-    let kept = stays (λ z. not_none r (e ∙ z)) in rw (e, sym kept.0, sym kept.1, sym kept.2)
+pub told : (left : LinkLeft) {words places zeros : List ℕ} {n : ℕ} → n ≡ left.refusal → (n ≡ 0 → ⊥) →
+    StaysWith words places zeros left → record { refusal = n; state = words; places = places; out = zeros } ≡ left
+told left e some stays =
+    let kept = stays (λ z. some (e ∙ z)) in rw (e, sym kept.0, sym kept.1, sym kept.2)
 
-told_host : (left : Left) {words zeros : List ℕ} (r : Refusal) → number r ≡ left.refusal →
-    Stays words zeros left → record { refusal = number r; state = words; out = zeros } ≡ left
-told_host left r e stays = let kept = stays (λ z. not_none r (e ∙ z)) in rw (e, sym kept.0, sym kept.1)
+told_host : (left : Left) {words zeros : List ℕ} {n : ℕ} → n ≡ left.refusal → (n ≡ 0 → ⊥) →
+    Stays words zeros left → record { refusal = n; state = words; out = zeros } ≡ left
+told_host left e some stays = let kept = stays (λ z. some (e ∙ z)) in rw (e, sym kept.0, sym kept.1)
 
-told_receipt : (left : ReceiveLeft) {words rx time : List ℕ} (r : Refusal) → number r ≡ left.refusal →
+told_receipt : (left : ReceiveLeft) {words rx time : List ℕ} {n : ℕ} → n ≡ left.refusal → (n ≡ 0 → ⊥) →
     ReceiptStays words rx time left →
-    record { refusal = number r; state = words; rx = rx; time = time; out = 0 ∷ 0 ∷ [] } ≡ left
-told_receipt left r e stays =
-    let kept = stays (λ z. not_none r (e ∙ z)) in rw (e, sym kept.0, sym kept.1, sym kept.2, sym kept.3)
+    record { refusal = n; state = words; rx = rx; time = time; out = 0 ∷ 0 ∷ [] } ≡ left
+told_receipt left e some stays =
+    let kept = stays (λ z. some (e ∙ z)) in rw (e, sym kept.0, sym kept.1, sym kept.2, sym kept.3)
 
 -- tick, reset, control and a fault that has a number: `s` is what the rule makes of the end
 module _ (words rx tx : List ℕ) (s : Settled) where
@@ -89,7 +89,11 @@ module _ (words rx tx : List ℕ) (s : Settled) where
 
   pub refused_as : (r : Refusal) → number r ≡ both_refused words (length rx) (length tx) →
       record { refusal = number r; state = words; places = rx; out = 0 ∷ [] } ≡ left
-  refused_as r e = told left r (e ∙ sym left_refusal) (call_stays words rx tx s)
+  refused_as r e = told left (e ∙ sym left_refusal) (not_none r) (call_stays words rx tx s)
+
+  pub refused_left : (both_refused words (length rx) (length tx) ≡ 0 → ⊥) →
+      left ≡ record { refusal = both_refused words (length rx) (length tx); state = words; places = rx; out = 0 ∷ [] }
+  refused_left some = sym (told left (sym left_refusal) some (call_stays words rx tx s))
 
 module _ (words rx tx : List ℕ) where
   abbrev booked : Sending
@@ -107,7 +111,12 @@ module _ (words rx tx : List ℕ) where
 
   pub send_refused_as : (r : Refusal) → number r ≡ both_refused words (length rx) (length tx) →
       record { refusal = number r; state = words; places = rx; out = 0 ∷ 0 ∷ 0 ∷ [] } ≡ send_left words rx tx
-  send_refused_as r e = told (send_left words rx tx) r (e ∙ sym send_refusal) (link_stays.send words rx tx)
+  send_refused_as r e = told (send_left words rx tx) (e ∙ sym send_refusal) (not_none r) (link_stays.send words rx tx)
+
+  pub send_refused_lem : (both_refused words (length rx) (length tx) ≡ 0 → ⊥) →
+      send_left words rx tx
+      ≡ record { refusal = both_refused words (length rx) (length tx); state = words; places = rx; out = 0 ∷ 0 ∷ 0 ∷ [] }
+  send_refused_lem some = sym (told (send_left words rx tx) (sym send_refusal) some (link_stays.send words rx tx))
 
   pub send_accepted : is_link words ≡ true → both_refusal (length rx) (length tx) (link_of words) ≡ 0 →
       (sent : Sending) → sent ≡ sending (length rx) tx (link_of words) →
@@ -145,8 +154,21 @@ module _ (words rx tx time : List ℕ) (kind value : ℕ) where
       record { refusal = number r; state = words; rx = rx; time = time; out = 0 ∷ 0 ∷ [] }
       ≡ receive_left words rx tx time kind value
   receive_refused_as r e =
-      told_receipt (receive_left words rx tx time kind value) r (e ∙ sym receive_refusal_lem)
+      told_receipt (receive_left words rx tx time kind value) (e ∙ sym receive_refusal_lem) (not_none r)
       (link_stays.receive words rx tx time kind value)
+
+  pub receive_refused_lem : (receive_refused words (length rx) (length tx) time token ≡ 0 → ⊥) →
+      receive_left words rx tx time kind value
+      ≡ record {
+        refusal = receive_refused words (length rx) (length tx) time token;
+        state = words;
+        rx = rx;
+        time = time;
+        out = 0 ∷ 0 ∷ [];
+      }
+  receive_refused_lem some =
+      sym (told_receipt (receive_left words rx tx time kind value) (sym receive_refusal_lem) some
+      (link_stays.receive words rx tx time kind value))
 
   pub receive_accepted : is_link words ≡ true → is_time time ≡ true →
       receive_refusal (length rx) (length tx) (link_of words) (time_of time) token ≡ 0 →
@@ -200,7 +222,12 @@ module _ (words tx : List ℕ) (n : ℕ) where
 
   pub put_refused_as : (r : Refusal) → number r ≡ put_refused words (length tx) (fitted n) →
       record { refusal = number r; state = words; places = tx; out = 0 ∷ [] } ≡ put_left words tx n
-  put_refused_as r e = told (put_left words tx n) r (e ∙ sym put_refusal_lem) (link_stays.put words tx n)
+  put_refused_as r e = told (put_left words tx n) (e ∙ sym put_refusal_lem) (not_none r) (link_stays.put words tx n)
+
+  pub put_refused_lem : (put_refused words (length tx) (fitted n) ≡ 0 → ⊥) →
+      put_left words tx n
+      ≡ record { refusal = put_refused words (length tx) (fitted n); state = words; places = tx; out = 0 ∷ [] }
+  put_refused_lem some = sym (told (put_left words tx n) (sym put_refusal_lem) some (link_stays.put words tx n))
 
 module _ (words rx : List ℕ) where
   pub take_accepted_lem : is_link words ≡ true → take_refusal (length rx) (link_of words) ≡ 0 →
@@ -225,7 +252,11 @@ module _ (words rx : List ℕ) where
 
   pub take_refused_as : (r : Refusal) → number r ≡ take_refused words (length rx) →
       record { refusal = number r; state = words; out = 0 ∷ 0 ∷ [] } ≡ take_left words rx
-  take_refused_as r e = told_host (take_left words rx) r (e ∙ sym take_refusal_lem) (link_stays.take words rx)
+  take_refused_as r e = told_host (take_left words rx) (e ∙ sym take_refusal_lem) (not_none r) (link_stays.take words rx)
+
+  pub take_refused_lem : (take_refused words (length rx) ≡ 0 → ⊥) →
+      take_left words rx ≡ record { refusal = take_refused words (length rx); state = words; out = 0 ∷ 0 ∷ [] }
+  take_refused_lem some = sym (told_host (take_left words rx) (sym take_refusal_lem) some (link_stays.take words rx))
 
 module _ (words : List ℕ) (code : ℕ) where
   pub offer_accepted_lem : is_link words ≡ true → offer_refusal (link_of words) ≡ 0 →
@@ -244,4 +275,8 @@ module _ (words : List ℕ) (code : ℕ) where
 
   pub offer_refused_as : (r : Refusal) → number r ≡ offer_refused words →
       record { refusal = number r; state = words; out = 0 ∷ [] } ≡ offer_left words code
-  offer_refused_as r e = told_host (offer_left words code) r (e ∙ sym offer_refusal_lem) (link_stays.offer words code)
+  offer_refused_as r e = told_host (offer_left words code) (e ∙ sym offer_refusal_lem) (not_none r) (link_stays.offer words code)
+
+  pub offer_refused_lem : (offer_refused words ≡ 0 → ⊥) →
+      offer_left words code ≡ record { refusal = offer_refused words; state = words; out = 0 ∷ [] }
+  offer_refused_lem some = sym (told_host (offer_left words code) (sym offer_refusal_lem) some (link_stays.offer words code))

@@ -12,6 +12,7 @@ use Rattle.vocabulary.specs.Choice.{pick}
 use Rattle.vocabulary.specs.Refusals.{CHAR, number}
 use Rattle.vocabulary.specs.declared.Refusal.{Refusal}
 use Rattle.vocabulary.specs.declared.Token.{Token}
+use Rattle.vocabulary.proofs.RefusalLaws.{not_none}
 use Rattle.words.specs.Arguments.{no_token}
 use Rattle.store.specs.Ring.{bad_store}
 use Rattle.store.proofs.OrLaws.{or_left, or_right}
@@ -20,17 +21,38 @@ use Rattle.time.specs.declared.Time.{Time}
 use Rattle.link.specs.Ends.{End}
 use Rattle.link.specs.Refusals.{bad_record, bad_rx_size, bad_tx_size, bad_receive}
 use Rattle.link.specs.declared.FaultKind.{FaultKind}
+use Rattle.link.specs.declared.FaultKind.TheVariants.{ParityFault, EscapeFault, DisconnectFault}
 use Rattle.link.specs.Records.{Answer}
 use Rattle.link.specs.Received.{fault_event}
 use Rattle.link.specs.Recovery.{settles}
 use Rattle.link.specs.Calls.{Outcome, accepted, answered, refused, refused_with, fault_outcome}
 use Rattle.link.specs.Calls.{both, receiving, token_accepted, received, receipt_of, receive_refused, receive_outcome}
 use Rattle.link.specs.LinkCalls.{as_answer, numbered_fault, NoFaultIsChar, answer_left, end_of, fault_left, fault_of, fault_refused}
-use Rattle.link.specs.LinkCalls.{no_fault, no_link}
+use Rattle.link.specs.LinkCalls.{fault_number, no_fault, no_link}
 use Rattle.link.specs.LinkWords.{is_link}
 use Rattle.link.proofs.StayLaws.{link_stays}
 use Rattle.link.proofs.RefusedLaws.{in_order}
 use Rattle.link.proofs.CallLaws.{told}
+
+pub fault_back : (k : FaultKind) → fault_of (fault_number k) ≡ k
+fault_back ParityFault = refl
+fault_back EscapeFault = refl
+fault_back DisconnectFault = refl
+
+pub fault_told : (kind : ℕ) → no_fault kind ≡ false → fault_number (fault_of kind) ≡ kind
+fault_told kind known = by (eqb kind 5) (eqb kind 6) refl refl
+  where
+    by : (p e : Bool) → eqb kind 5 ≡ p → eqb kind 6 ≡ e → fault_number (pick p ParityFault (pick e EscapeFault DisconnectFault)) ≡ kind
+    by true e p q = sym (eqb-true kind 5 p)
+    by false true p q = sym (eqb-true kind 6 q)
+    by false false p q =
+        omega (
+          arith,
+          ltb-false kind 5 (or_left _ (ltb 7 kind) known),
+          ltb-false 7 kind (or_right (ltb kind 5) _ known),
+          eqb-false kind 5 p,
+          eqb-false kind 6 q,
+        )
 
 receiving_none : (e : End) → receiving e fresh_time no_token ≡ pick (eqb (both e) 0) (number CHAR) (both e)
 unfolding fresh_time
@@ -103,4 +125,10 @@ pub fault_refused_as : (words rx tx : List ℕ) (kind : ℕ) (r : Refusal) →
     number r ≡ fault_refused words (length rx) (length tx) kind →
     record { refusal = number r; state = words; places = rx; out = 0 ∷ [] } ≡ fault_left words rx tx kind
 fault_refused_as words rx tx kind r e =
-    told (fault_left words rx tx kind) r (e ∙ sym (fault_refusal words rx tx kind)) (link_stays.fault words rx tx kind)
+    told (fault_left words rx tx kind) (e ∙ sym (fault_refusal words rx tx kind)) (not_none r) (link_stays.fault words rx tx kind)
+
+pub fault_refused_lem : (words rx tx : List ℕ) (kind : ℕ) → (fault_refused words (length rx) (length tx) kind ≡ 0 → ⊥) →
+    fault_left words rx tx kind
+    ≡ record { refusal = fault_refused words (length rx) (length tx) kind; state = words; places = rx; out = 0 ∷ [] }
+fault_refused_lem words rx tx kind some =
+    sym (told (fault_left words rx tx kind) (sym (fault_refusal words rx tx kind)) some (link_stays.fault words rx tx kind))

@@ -2,13 +2,17 @@
 -- Assumes nothing.
 use mathlib.Core.Path.{◌≡◌}
 use mathlib.Core.Bool.{false, not, ◌||◌, ◌&&◌}
-use Prim.Native.Nat.{◌≤◌, ◌<◌}
+use mathlib.Core.List.{[], ◌∷◌}
+use Prim.Native.Nat.{ℕ, ◌≤◌, ◌<◌}
 use native.Mathlib.Omega.{arith}
 use lib.Dec.{eqb}
 use borrow.Author.Tests.{ltb-false, leb-false}
+use Rattle.vocabulary.specs.Refusals.{STATE, STORE, test}
+use Rattle.vocabulary.proofs.RefusalLaws.{passed}
+use Rattle.store.specs.Ring.{bad_store}
 use Rattle.store.proofs.OrLaws.{or_left, or_right}
 use Rattle.link.specs.Moves.{is_state, limit_of}
-use Rattle.link.specs.Refusals.{bad_held, bad_given, bad_timer, bad_record}
+use Rattle.link.specs.Refusals.{bad_held, bad_given, bad_timer, bad_record, bad_rx_size, bad_tx_size, bad_receive, both_refusal}
 use Rattle.link.specs.declared.LinkState.{LinkState}
 use Rattle.link.specs.declared.LinkState.TheVariants.{ErrorReset, ErrorWait, Ready, Started, Connecting, Run}
 use Rattle.link.specs.Records.{Link}
@@ -48,3 +52,9 @@ module _ (l : Link) (good : bad_record l ≡ false) where
       (or_left _
       (not (is_state l.stage.state Connecting || is_state l.stage.state Run) && not (eqb l.credit.given.0 0))
       given_good)
+
+-- a call that tests both stores and is not refused
+pub both_record : (rx tx : ℕ) (l : Link) → both_refusal rx tx l ≡ 0 → bad_record l ≡ false
+both_record rx tx l e =
+    passed STATE (bad_record l)
+    (test STORE (bad_rx_size rx || bad_tx_size tx) ∷ test STATE (bad_receive rx l || bad_store tx l.tx) ∷ []) e

@@ -34,13 +34,21 @@ next =
     ∷ (5 ∷ 0 ∷ 5 ∷ 5 ∷ 5 ∷ 0 ∷ 5 ∷ 5 ∷ 0 ∷ 5 ∷ [])
     ∷ []
 
-number_small : (s : LinkState) → state_number s < 6
+pub number_small : (s : LinkState) → state_number s < 6
 number_small ErrorReset = omega arith
 number_small ErrorWait = omega arith
 number_small Ready = omega arith
 number_small Started = omega arith
 number_small Connecting = omega arith
 number_small Run = omega arith
+
+pub event_small : (e : Event) → event_number e < 10
+event_small Quiet = omega arith
+event_small Fault = omega arith
+event_small GotFct = omega arith
+event_small GotNChar = omega arith
+event_small GotTimeCode = omega arith
+event_small CreditError = omega arith
 
 pub state_of_number : (s : LinkState) → state_of (state_number s) ≡ s
 state_of_number ErrorReset = refl
@@ -49,6 +57,19 @@ state_of_number Ready = refl
 state_of_number Started = refl
 state_of_number Connecting = refl
 state_of_number Run = refl
+
+pub number_of_state : (n : ℕ) → n < 6 → state_number (state_of n) ≡ n
+number_of_state n h = eqb→eq (state_number (state_of n)) n (below (λ (k : ℕ). eqb (state_number (state_of k)) k) 6 tt n h)
+
+-- any larger number is read as Run
+pub past_the_others : (n : ℕ) → 4 < n → state_of n ≡ Run
+past_the_others zero h = absurd (omega arith)
+past_the_others (suc zero) h = absurd (omega arith)
+past_the_others (suc (suc zero)) h = absurd (omega arith)
+past_the_others (suc (suc (suc zero))) h = absurd (omega arith)
+past_the_others (suc (suc (suc (suc zero)))) h = absurd (omega arith)
+past_the_others (suc (suc (suc (suc (suc zero))))) h = refl
+past_the_others (suc (suc (suc (suc (suc (suc n)))))) h = refl
 
 same_state : (s s' : LinkState) → T (is_state s s') → s ≡ s'
 same_state s s' h = sym (state_of_number s) ∙ ap state_of (eqb→eq (state_number s) (state_number s') h) ∙ state_of_number s'
@@ -92,14 +113,21 @@ table_right state column h k =
     (subst (λ (c : ℕ). get_or (get_or next (n / 10) []) c 0 ≡ state_number (table_at (state_of (n / 10)) c)) place
     (entry_right n (omega arith)))
 
--- the state by the number in a cell is what the table says there
+-- the number in a cell is that of the state that the table says there
+pub cell_number : (s : LinkState) (n column : ℕ) → n ≡ state_number s → column < 10 →
+    get_or (get_or next n []) column 0 ≡ state_number (table_at s column)
+cell_number s n column is inside =
+    rw is
+    (table_right (state_number s) column (number_small s) inside
+    ∙ ap (λ (t : LinkState). state_number (table_at t column)) (state_of_number s))
+
+-- the state by that number is what the table says there
+pub numbered_state : (s : LinkState) (n column : ℕ) → n ≡ state_number (table_at s column) → state_of n ≡ table_at s column
+numbered_state s n column is = ap state_of is ∙ state_of_number (table_at s column)
+
 pub cell_state : (s : LinkState) (n column : ℕ) → n ≡ state_number s → column < 10 →
     state_of (get_or (get_or next n []) column 0) ≡ table_at s column
-cell_state s n column is inside =
-    rw is
-    (ap state_of (table_right (state_number s) column (number_small s) inside)
-    ∙ state_of_number _
-    ∙ ap (λ (t : LinkState). table_at t column) (state_of_number s))
+cell_state s n column is inside = numbered_state s _ column (cell_number s n column is inside)
 
 abbrev pub bits : List Bool
 bits = true ∷ false ∷ []

@@ -4,7 +4,7 @@
 use Rattle.std.specs.Prelude.{ℕ, Result, Ok, Err, IsErr}
 use Rattle.std.specs.Result.{IsErrAnd}
 use mathlib.Core.Path.{◌≡◌, refl, sym, ap, ◌∙◌}
-use mathlib.Core.Bool.{Bool, true, false, not}
+use mathlib.Core.Bool.{Bool, true, false, not, ◌||◌}
 use mathlib.Core.List.{List}
 use native.Mathlib.Omega.{arith}
 use lib.Dec.{eqb}
@@ -105,3 +105,10 @@ past_both e h = rw (sym e) h
 
 pub both_stops : {both : ℕ} (later : ℕ) (r : Refusal) → number r ≡ both → number r ≡ pick (eqb both 0) later both
 both_stops later r e = rw (ne_eqb _ 0 (λ z. not_none r (e ∙ z))) e
+
+-- two tests of one refusal
+pub first_applies : (b : Bool) {r a : Bool} → r ≡ a → r ≡ true → true ≡ (a || b)
+first_applies b p q = rw (sym p ∙ q)
+
+pub then_second : {r a s b : Bool} → r ≡ a → r ≡ false → s ≡ b → s ≡ (a || b)
+then_second p q h = rw (sym p ∙ q) h

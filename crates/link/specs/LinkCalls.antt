@@ -33,6 +33,12 @@ no_fault kind = ltb kind 5 || ltb 7 kind
 abbrev pub fault_of : ℕ → FaultKind
 fault_of kind = pick (eqb kind 5) ParityFault (pick (eqb kind 6) EscapeFault DisconnectFault)
 
+-- a fault has the number of its report
+abbrev pub fault_number : FaultKind → ℕ
+fault_number ParityFault = 5
+fault_number EscapeFault = 6
+fault_number DisconnectFault = 7
+
 abbrev pub fault_refused : List ℕ → ℕ → ℕ → ℕ → ℕ
 fault_refused words rx tx kind =
     pick (eqb (both_refused words rx tx) 0) (pick (no_fault kind) (number CHAR) 0) (both_refused words rx tx)

@@ -3,7 +3,7 @@
 
 ghost use Rattle.std.specs.Prelude.{◌≡◌, ◌<◌, ◌&&◌, leb};
 ghost use Rattle.link.specs.Records.{Link};
-ghost use Rattle.link.specs.Moves.{limit_of, counts_ticks, enabled_by, conditions, next_state, entered};
+ghost use Rattle.link.specs.Moves.{limit_of, counts_ticks, enabled_by, conditions, next_state, entered, state_number};
 ghost use Rattle.link.specs.Table.{table_at, condition_number, column_holds, first_from};
 ghost use Rattle.link.specs.InPlace.{Reads, Writes};
 
@@ -88,12 +88,21 @@ fn holds(words: &Words, condition: Condition) -> bool
     }
 }
 
-#[tactic(auto, using(crate::proofs::TableLaws::cell_state))]
+// By its number, so that a contract holds what the table has: `state_of` reads any number above 4 as Run.
+#[tactic(auto, using(crate::proofs::TableLaws::cell_number))]
+fn cell(state: LinkState, column: usize) -> u8
+    requires { column < 10 }
+    ensures { result ≡ state_number (table_at state column) }
+{
+    NEXT[state as usize][column]
+}
+
+#[tactic(auto, using(crate::proofs::TableLaws::numbered_state))]
 fn look_up(state: LinkState, column: usize) -> LinkState
     requires { column < 10 }
     ensures { result ≡ table_at state column }
 {
-    fields::state_of(u32::from(NEXT[state as usize][column]))
+    fields::state_of(u32::from(cell(state, column)))
 }
 
 // Beside what came, the first condition that holds and whose cell is not the state itself.

@@ -13,6 +13,9 @@ use Rattle.characters.specs.Reports.{report_kind, report_value}
 use Rattle.std.specs.Prelude.{Option, None, Some}
 use Rattle.characters.specs.declared.reports.Report.{Report}
 use Rattle.characters.specs.declared.reports.Report.TheVariants.{Got, ParityError, EscapeError, Disconnect}
+use Rattle.vocabulary.proofs.RefusalLaws.{one_number}
+use Rattle.link.specs.LinkCalls.{fault_of}
+use Rattle.link.proofs.FaultLaws.{fault_back, fault_told}
 use Rattle.link.specs.Table.{state_of}
 use Rattle.link.proofs.TableLaws.{state_of_number}
 use Rattle.link.specs.Send.{sent_kind, sent_value, offer_number, offer_value}
@@ -105,6 +108,9 @@ enums_numbered =
       sent = found sent_kind sent_value find_sent back_sent;
       offer = found offer_number offer_value find_offer back_offer;
       state = λ x y n. sym (state_of_number x) ∙ ap state_of n ∙ state_of_number y;
+      refusal = one_number;
+      fault = λ x y n. sym (fault_back x) ∙ ap fault_of n ∙ fault_back y;
+      fault_told = fault_told;
       mode = found mode_number (λ m. (mode_wanted m, mode_output m)) find_mode back_mode;
       owner = found owner_number owner_input find_owner back_owner;
       heading = found heading_number heading_values find_heading back_heading;

@@ -46,13 +46,17 @@ with_its_number Refusal.NotRun = refl
 with_its_number Refusal.Empty = refl
 with_its_number Refusal.Full = refl
 
+-- two refusals of one number are one
+pub one_number : (x y : Refusal) → number x ≡ number y → x ≡ y
+one_number x y n = sym (with_its_number x) ∙ ap with_number n ∙ with_its_number y
+
 -- a number and an answer leave one result: which refusal it is, or what was answered
 pub one_result : {A : Type 0} (zero : A) (x y : Result A Refusal) →
     refusal_in x ≡ refusal_in y → answer_in zero x ≡ answer_in zero y → x ≡ y
 one_result zero (Ok a) (Ok b) r e = ap Ok e
 one_result zero (Ok a) (Err s) r e = absurd (not_none s (sym r))
 one_result zero (Err s) (Ok b) r e = absurd (not_none s r)
-one_result zero (Err s) (Err t) r e = ap Err (sym (with_its_number s) ∙ ap with_number r ∙ with_its_number t)
+one_result zero (Err s) (Err t) r e = ap Err (one_number s t r)
 
 -- the first test of a call that is not refused does not apply
 pub passed : (r : Refusal) (applies : Bool) (ts : List Test) → first_of (test r applies ∷ ts) ≡ 0 → applies ≡ false
