@@ -5,7 +5,7 @@ use mathlib.Core.Path.{◌≡◌, refl, sym, ap}
 use mathlib.Core.Bool.{Bool, true, false}
 use mathlib.Core.List.{List, [], ◌∷◌}
 use native.Mathlib.Omega.{arith}
-use lib.Dec.{eqb}
+use lib.Dec.{eqb, ltb}
 use lib.ListN.{length}
 use borrow.Author.Tests.{lt-ltb, le-ltb, ne_eqb}
 use Rattle.vocabulary.specs.Choice.{pick}
@@ -16,7 +16,7 @@ use Rattle.vocabulary.specs.declared.Token.TheVariants.{Null, Fct, NChar, TimeCo
 use Rattle.words.specs.Words.{Left, Stays, word_at, truth_word, same}
 use Rattle.vocabulary.specs.declared.Token.{Token}
 use Rattle.vocabulary.specs.Tokens.{bad_char}
-use Rattle.words.specs.Arguments.{token_of, named}
+use Rattle.words.specs.Arguments.{token_of, fitted, named}
 use Rattle.words.proofs.SameLaws.{same_is, same_itself}
 use Rattle.words.proofs.StayLaws.{pick_stays}
 use Rattle.characters.specs.Bits.{bit, odd, bits_of}
@@ -116,6 +116,22 @@ module _ (words : List ℕ) (kind value : ℕ) where
       let yes = answered (is_encoder words) _ _ _ e in
       let named = passed (bad_char t) _ _ _ f in
       rw (tested, yes.0, named.0, named.1, yes.1, sends)
+
+-- what is answered of a token: its bits, or CHAR
+pub answers_sent : (e : Encoder) (t : Token) → bad_char t ≡ false → encode_answer e t ≡ sent e t
+unfolding encode_answer
+answers_sent e t good = rw good
+
+pub answers_refused : (e : Encoder) (t : Token) → bad_char t ≡ true → encode_answer e t ≡ encode_refused e 5
+unfolding encode_answer
+answers_refused e t bad = rw bad
+
+pub above_refused : (e : Encoder) (v : ℕ) → 257 < v → encode_answer e (NChar (fitted v)) ≡ encode_refused e 5
+above_refused e v h = answers_refused e (NChar (fitted v)) (by (ltb v 65536))
+  where
+    by : (b : Bool) → ltb 257 (pick b v 65535) ≡ true
+    by true = lt-ltb 257 v h
+    by false = refl
 
 truth_bit : (o : Bool) → truth_word o ≡ bit o
 truth_bit true = refl

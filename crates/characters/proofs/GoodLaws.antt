@@ -11,12 +11,14 @@ use lib.ListN.{length}
 use borrow.Author.Tests.{eq-eqb, ne_eqb, lt-ltb, le-ltb, lt-leb, le-leb, leb-true, leb-false, ltb-true, ltb-false}
 use Rattle.words.specs.Words.{same, word_at, byte, truth, truth_word}
 use Rattle.words.proofs.NumberLaws.{byte_back}
+use Rattle.words.proofs.SameLaws.{same_lengths}
 use Rattle.characters.specs.Refusals.{bad_waiting}
 use Rattle.characters.specs.DecoderWords.{waiting_number, waiting_value, waiting_of, most_value, within}
 use Rattle.characters.specs.declared.reports.Waiting.{Waiting}
 use Rattle.characters.specs.declared.phases.Phase as numbers
 use Rattle.characters.specs.declared.phases.Phase.TheVariants as the
-use Rattle.characters.specs.DecoderWords.{phase_number, decoder_from, decoder_of, is_good_as, is_good}
+use Rattle.characters.specs.DecoderWords.{phase_number, decoder_from, decoder_of, decoder_words, is_good_as, is_good}
+use Rattle.characters.specs.States.{Decoder, Fresh, Heard, Stopped, Hunting, Between, Parity, Data, Control, Second}
 use Rattle.characters.proofs.WaitingLaws.{waiting_test}
 
 -- seven words, one by one
@@ -137,6 +139,22 @@ waited s tn tx n x bad {e} {f} {p} h he hf hp =
     rw (silence_test s, neither (ltb 8 (byte s)) bad, he, hf, hp)
     (regrouped_waiting (eqb s (byte s)) (not (ltb 8 (byte s))) tn tx (e && (f && (p && true))) n x (not bad) h)
 
+-- other words than seven are no decoder's
+seven_words : (d : Decoder) → length (decoder_words d) ≡ 7
+seven_words Fresh = refl
+seven_words (Heard (Hunting places) silent) = refl
+seven_words (Heard (Between w) silent) = refl
+seven_words (Heard (Parity w p) silent) = refl
+seven_words (Heard (Data escape places) silent) = refl
+seven_words (Heard (Control escape) silent) = refl
+seven_words (Heard (Second escape a) silent) = refl
+seven_words Stopped = refl
+
+pub other_length_not_good : (v : List ℕ) → (length v ≡ 7 → ⊥) → is_good v ≡ false
+unfolding is_good is_good_as
+other_length_not_good v other =
+    rw (same_lengths v (decoder_words (decoder_of v)) (λ e. other (e ∙ seven_words (decoder_of v))))
+
 -- what is allowed in each phase
 module _ (v : List ℕ) (whole : length v ≡ 7) where
   abbrev w : ℕ → ℕ
@@ -148,7 +166,7 @@ module _ (v : List ℕ) (whole : length v ≡ 7) where
   abbrev truth_at : (k : ℕ) → leb (w k) 1 ≡ eqb (w k) (truth_word (truth (w k)))
   truth_at k = truth_test (w k)
 
-  fresh_good : word_at v 0 ≡ 0 → within v (7 ∷ 0 ∷ 0 ∷ 0 ∷ 0 ∷ 0 ∷ 0 ∷ []) ≡ is_good v
+  pub fresh_good : word_at v 0 ≡ 0 → within v (7 ∷ 0 ∷ 0 ∷ 0 ∷ 0 ∷ 0 ∷ 0 ∷ []) ≡ is_good v
   unfolding is_good is_good_as decoder_of decoder_from same
   fresh_good phase =
       subst (λ (u : List ℕ). within u (7 ∷ 0 ∷ 0 ∷ 0 ∷ 0 ∷ 0 ∷ 0 ∷ []) ≡ is_good u) (sym (seven v whole))

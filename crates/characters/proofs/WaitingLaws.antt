@@ -25,7 +25,7 @@ is_waiting n value =
     eqb n (waiting_number (waiting_of n value)) && (eqb value (waiting_value (waiting_of n value)) && not
     (bad_waiting (waiting_of n value)))
 
-n_char_waits : (v : ℕ) → leb v 257 ≡ is_waiting 3 v
+pub n_char_waits : (v : ℕ) → leb v 257 ≡ is_waiting 3 v
 unfolding waiting_of token_of
 n_char_waits v = small (leb v 257) refl (ltb v 65536) refl
   where
@@ -35,7 +35,7 @@ n_char_waits v = small (leb v 257) refl (ltb v 65536) refl
     small false p true q = rw (q, p, eq-eqb v v refl, lt-ltb 257 v (leb-false v 257 p))
     small false p false q = rw (q, p, ne_eqb v 65535 (λ e. omega (arith, e, ltb-false v 65536 q)))
 
-time_code_waits : (v : ℕ) → leb v 255 ≡ is_waiting 4 v
+pub time_code_waits : (v : ℕ) → leb v 255 ≡ is_waiting 4 v
 unfolding waiting_of token_of
 time_code_waits v = small (ltb v 256) refl
   where
@@ -68,7 +68,7 @@ large_waits n v h =
     (ap (λ (b : Bool). b && (eqb v 65535 && false)) (sym (ne_eqb n 3 (λ e. omega (arith, e, h)))))
 
 -- any other number waits with the value 0, or not at all
-other_waits : (n v : ℕ) → (n ≡ 3 → ⊥) → (n ≡ 4 → ⊥) → leb n 5 && eqb v 0 ≡ is_waiting n v
+pub other_waits : (n v : ℕ) → (n ≡ 3 → ⊥) → (n ≡ 4 → ⊥) → leb n 5 && eqb v 0 ≡ is_waiting n v
 unfolding waiting_of token_of
 other_waits zero v h k = sym (and_true (eqb v 0))
 other_waits (suc zero) v h k = (bare_waits v (eqb v 0) refl).0

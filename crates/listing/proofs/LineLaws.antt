@@ -116,7 +116,7 @@ module _ (l : Listing) (b : Bool) (answered : Result (Option Report) Refusal) {w
   bit_taken e n puts = record { progress = rw (e, n, bit_words, bit_means l.words b); written = puts }
 
 module _ (p : Progress) (xs ys : List Bool) where
-  more_of_both : more_text p (xs ++ ys) ≡ more_text p xs ++ more_text (progressed p xs) ys
+  pub more_of_both : more_text p (xs ++ ys) ≡ more_text p xs ++ more_text (progressed p xs) ys
   unfolding more_text progressed
   more_of_both =
       let e : (p.count + 1) + length xs ≡ (p.count + length xs) + 1 = omega arith in
@@ -124,7 +124,7 @@ module _ (p : Progress) (xs ys : List Bool) where
       ∙ text_append (fed p.decoder (p.count + 1) xs) _
       ∙ ap (λ (n : ℕ). more_text p xs ++ text_of (fed (after p.decoder xs) n ys)) e
 
-  progressed_both : progressed (progressed p xs) ys ≡ progressed p (xs ++ ys)
+  pub progressed_both : progressed (progressed p xs) ys ≡ progressed p (xs ++ ys)
   unfolding progressed
   progressed_both = rw (length-append xs ys, after_append p.decoder xs ys, add_assoc p.count (length xs) (length ys))
 

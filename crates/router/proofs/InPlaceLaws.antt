@@ -153,72 +153,114 @@ module _ (words area : List ℕ) where
       let passed = router_first (is_router words) (run_refusal lent (fitted limit)) e in
       ran_in_words words area passed.0 table (fitted limit) passed.1 ∙ sym (rw passed.0)
 
--- What a refused call leaves: the words keep no router, or its own refusal is told.
+-- the words of what is told are the words that are left
+pub asked_told : (words : List ℕ) (port : ℕ) → asked (held_told words port) ≡ held_left words port
+unfolding held_told held_left asked held_refused held_words
+asked_told words port = go (is_router words)
+  where
+    go : (b : Bool) →
+        asked (pick b (still_held (router_of words) port) (held_refused 1))
+        ≡ pick b (asked (still_held (router_of words) port)) (record { refusal = 1; out = replicate 11 0 })
+    go true = refl
+    go false = refl
 
-module _ (words : List ℕ) (r : Refusal) where
-  either_refused : {A : Type 0} (later : ℕ) (answer : ℕ → A) (accepted : A) → number r ≡ state_first words later →
-      (is_router words ≡ true → number r ≡ later → eqb later 0 ≡ false → answer later ≡ accepted) →
-      answer (number r) ≡ pick (is_router words) accepted (answer 1)
+-- What a refused call leaves: the words keep no router, or its own refusal is told, any number but 0.
+
+abbrev stays : List ℕ → List ℕ → List ℕ → ℕ → RouterLeft
+stays words area zeros n = record { refusal = n; state = words; area = area; out = zeros }
+
+abbrev no_row : ℕ → RowRead
+no_row n = record { refusal = n; value = 0 }
+
+module _ (words : List ℕ) (n : ℕ) (some : n ≡ 0 → ⊥) where
+  either_refused : {A : Type 0} (later : ℕ) (answer : ℕ → A) (accepted : A) → n ≡ state_first words later →
+      (is_router words ≡ true → n ≡ later → eqb later 0 ≡ false → answer later ≡ accepted) →
+      answer n ≡ pick (is_router words) accepted (answer 1)
   either_refused later answer accepted e told = go (is_router words) refl e
     where
-      go : (b : Bool) → is_router words ≡ b → number r ≡ pick b later 1 → answer (number r) ≡ pick b accepted (answer 1)
-      go true is same = ap answer same ∙ told is same (ne_eqb later 0 (λ none. not_none r (same ∙ none)))
+      go : (b : Bool) → is_router words ≡ b → n ≡ pick b later 1 → answer n ≡ pick b accepted (answer 1)
+      go true is same = ap answer same ∙ told is same (ne_eqb later 0 (λ none. some (same ∙ none)))
       go false is same = ap answer same
 
   own_words : is_router words ≡ true → words ≡ router_words (router_of words)
   own_words is = same_is words (router_words (router_of words)) is
 
   module _ (area : List ℕ) where
-    abbrev stays : List ℕ → ℕ → RouterLeft
-    stays zeros n = record { refusal = n; state = words; area = area; out = zeros }
-
-    pub put_refused : (port n : ℕ) → number r ≡ state_first words (put_refusal (lent words area) port (fitted n)) →
-        stays [] (number r) ≡ put_left words area port n
-    unfolding put_left put puts no_router
-    put_refused port n e =
-        either_refused (put_refusal (lent words area) port (fitted n)) (stays []) (put (puts (lent words area) port (fitted n))) e
+    pub put_refused_lem : (port nchar : ℕ) → n ≡ state_first words (put_refusal (lent words area) port nchar) →
+        stays words area [] n ≡ pick (is_router words) (put (puts (lent words area) port nchar)) (no_router words area [])
+    unfolding put puts no_router
+    put_refused_lem port nchar e =
+        either_refused (put_refusal (lent words area) port nchar) (stays words area []) (put (puts (lent words area) port nchar)) e
         (λ is told nonzero. rw (nonzero, ← own_words is))
+
+    pub take_refused_lem : (port : ℕ) → n ≡ state_first words (take_refusal (lent words area) port) →
+        stays words area (0 ∷ []) n
+        ≡ pick (is_router words) (took (takes (lent words area) port)) (no_router words area (0 ∷ []))
+    unfolding took takes no_router
+    take_refused_lem port e =
+        either_refused (take_refusal (lent words area) port) (stays words area (0 ∷ [])) (took (takes (lent words area) port)) e
+        (λ is told nonzero. rw (nonzero, ← own_words is))
+
+    pub run_refused_lem : (table : List ℕ) (limit : ℕ) → n ≡ state_first words (run_refusal (lent words area) limit) →
+        stays words area (0 ∷ 0 ∷ 0 ∷ []) n
+        ≡ pick (is_router words) (ran (runs (lent words area) table limit)) (no_router words area (0 ∷ 0 ∷ 0 ∷ []))
+    unfolding ran runs no_router
+    run_refused_lem table limit e =
+        either_refused (run_refusal (lent words area) limit) (stays words area (0 ∷ 0 ∷ 0 ∷ []))
+        (ran (runs (lent words area) table limit)) e
+        (λ is told nonzero. rw (nonzero, ← own_words is))
+
+  pub row_refused_lem : (table : List ℕ) (row : ℕ) → n ≡ row_refused words row → no_row n ≡ row_left words table row
+  unfolding row_left reads_row
+  row_refused_lem table row e =
+      either_refused (row_refusal (router_of words) row) no_row (reads_row (router_of words) table row) e
+      (λ is told nonzero. rw nonzero)
+
+  -- what is still held
+
+  none_told : (port : ℕ) → n ≡ state_first words (held_refusal (router_of words) port) →
+      held_refused n ≡ held_told words port
+  unfolding held_told still_held
+  none_told port e =
+      either_refused (held_refusal (router_of words) port) held_refused (still_held (router_of words) port) e
+      (λ is told nonzero. rw nonzero)
+
+  pub held_words_refused : (port : ℕ) → n ≡ state_first words (held_refusal (router_of words) port) →
+      record { refusal = n; out = replicate 11 0 } ≡ held_left words port
+  unfolding asked held_refused held_words
+  held_words_refused port e = ap asked (none_told port e) ∙ asked_told words port
+
+-- The same of a refusal, as the calls answer it.
+
+module _ (words : List ℕ) (r : Refusal) where
+  module _ (area : List ℕ) where
+    pub put_refused : (port n : ℕ) → number r ≡ state_first words (put_refusal (lent words area) port (fitted n)) →
+        stays words area [] (number r) ≡ put_left words area port n
+    unfolding put_left
+    put_refused port n e = put_refused_lem words (number r) (not_none r) area port (fitted n) e
 
     pub take_refused : (port : ℕ) → number r ≡ state_first words (take_refusal (lent words area) port) →
-        stays (0 ∷ []) (number r) ≡ take_left words area port
-    unfolding take_left took takes no_router
-    take_refused port e =
-        either_refused (take_refusal (lent words area) port) (stays (0 ∷ [])) (took (takes (lent words area) port)) e
-        (λ is told nonzero. rw (nonzero, ← own_words is))
+        stays words area (0 ∷ []) (number r) ≡ take_left words area port
+    unfolding take_left
+    take_refused port e = take_refused_lem words (number r) (not_none r) area port e
 
     pub run_refused : (table : List ℕ) (limit : ℕ) →
         number r ≡ state_first words (run_refusal (lent words area) (fitted limit)) →
-        stays (0 ∷ 0 ∷ 0 ∷ []) (number r) ≡ run_left words area table limit
-    unfolding run_left ran runs no_router
-    run_refused table limit e =
-        either_refused (run_refusal (lent words area) (fitted limit)) (stays (0 ∷ 0 ∷ 0 ∷ []))
-        (ran (runs (lent words area) table (fitted limit))) e
-        (λ is told nonzero. rw (nonzero, ← own_words is))
-
-  -- rows
-
-  abbrev no_row : ℕ → RowRead
-  no_row n = record { refusal = n; value = 0 }
+        stays words area (0 ∷ 0 ∷ 0 ∷ []) (number r) ≡ run_left words area table limit
+    unfolding run_left
+    run_refused table limit e = run_refused_lem words (number r) (not_none r) area table (fitted limit) e
 
   pub read_refused : (table : List ℕ) (row : ℕ) → number r ≡ row_refused words row →
       no_row (number r) ≡ row_left words table row
-  unfolding row_left reads_row
-  read_refused table row e =
-      either_refused (row_refusal (router_of words) row) no_row (reads_row (router_of words) table row) e
-      (λ is told nonzero. rw nonzero)
+  read_refused table row e = row_refused_lem words (number r) (not_none r) table row e
 
   pub write_refused : (table : List ℕ) (row value : ℕ) → number r ≡ row_refused words row →
       table_left words table row value ≡ table
   write_refused table row value e = table_stays words table row value (λ none. not_none r (e ∙ none))
 
-  -- what is still held
-
   pub held_refused_lem : (port : ℕ) → number r ≡ state_first words (held_refusal (router_of words) port) →
       held_refused (number r) ≡ held_told words port
-  unfolding held_told still_held
-  held_refused_lem port e =
-      either_refused (held_refusal (router_of words) port) held_refused (still_held (router_of words) port) e
-      (λ is told nonzero. rw nonzero)
+  held_refused_lem port e = none_told words (number r) (not_none r) port e
 
 pub read_done : (words table : List ℕ) (row : ℕ) → 0 ≡ row_refused words row →
     record { refusal = 0; value = row_at table row } ≡ row_left words table row
@@ -240,14 +282,3 @@ unfolding held_told still_held
 held_done words port e =
     let passed = router_first (is_router words) (held_refusal (router_of words) port) e in
     rw (passed.0, eq-eqb _ _ passed.1)
-
--- the words of what is told are the words that are left
-pub asked_told : (words : List ℕ) (port : ℕ) → asked (held_told words port) ≡ held_left words port
-unfolding held_told held_left asked held_refused held_words
-asked_told words port = go (is_router words)
-  where
-    go : (b : Bool) →
-        asked (pick b (still_held (router_of words) port) (held_refused 1))
-        ≡ pick b (asked (still_held (router_of words) port)) (record { refusal = 1; out = replicate 11 0 })
-    go true = refl
-    go false = refl

@@ -52,6 +52,15 @@ held_accepts s port h =
     let below = ltb-false 10 port (passed (no_port port) 2 0 (passed (bad_ports s) 0 _ h).1).0 in
     omega arith
 
+-- words that keep no router are refused as those of one that is refused as STATE
+pub state_first_lem : (words : List ℕ) (later : ℕ) →
+    pick (bad_state words) 1 later ≡ state_first words (pick (bad_ports (router_of words)) 1 later)
+state_first_lem words later = go (is_router words)
+  where
+    go : (is : Bool) → pick (not is || bad_ports (router_of words)) 1 later ≡ pick is (pick (bad_ports (router_of words)) 1 later) 1
+    go true = refl
+    go false = refl
+
 -- a call that is not refused is lent the words of a router
 pub router_first : (is : Bool) (later : ℕ) → 0 ≡ pick is later 1 → (is ≡ true) × (later ≡ 0)
 router_first true later e = (refl, omega (arith, e))

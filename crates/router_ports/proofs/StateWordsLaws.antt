@@ -14,7 +14,7 @@ use lib.Seq.{ext_get_or}
 use borrow.Author.Tests.{eq-eqb, ne_eqb, eqb-true, lt-ltb, le-ltb}
 use Rattle.vocabulary.specs.Choice.{pick}
 use Rattle.words.specs.Words.{word_at, same, truth, truth_word, narrow}
-use Rattle.words.proofs.SameLaws.{same_is, same_itself}
+use Rattle.words.proofs.SameLaws.{same_is, same_itself, same_lengths}
 use Rattle.store.proofs.OrLaws.{or_left, or_right}
 use Rattle.store.specs.StoreWords.{store_words, store_of}
 use Rattle.store.specs.declared.Store.{Store}
@@ -379,7 +379,7 @@ module _ (words : List ℕ) where
           or_right (not (right_at (3 * p + 33) && (right_at (3 * p + 33 + 1) && right_at (3 * p + 33 + 2)))) _ (output_good p h) in
           rw (mode, output)) 0 11 (omega arith)
 
-    good_state : length words ≡ 110 → ((p : ℕ) → p < 11 → bad_port_in words p ≡ false) → bad_state words ≡ false
+    pub good_state : length words ≡ 110 → ((p : ℕ) → p < 11 → bad_port_in words p ≡ false) → bad_state words ≡ false
     good_state long good = rw (good_is_router good long, good_ports good)
 
   -- and in the words of a router that is not refused no port is wrong
@@ -410,13 +410,18 @@ module _ (words : List ℕ) where
               right (3 * p + 33 + 2) (omega (arith, h)),
             ) here
 
-    bad_port_bad_state : bad_state words ≡ true
+    pub bad_port_bad_state : bad_state words ≡ true
     bad_port_bad_state = go (is_router words) (bad_ports s) refl refl
       where
         go : (is bad : Bool) → is_router words ≡ is → bad_ports s ≡ bad → not is || bad ≡ true
         go true true e d = refl
         go true false e d = absurd (refused_port e d)
         go false bad e d = refl
+
+  pub other_length_bad_state : (length words ≡ 110 → ⊥) → bad_state words ≡ true
+  unfolding router_words
+  other_length_bad_state d =
+      rw (same_lengths words (router_words s) (λ e. d (e ∙ length_listed (router_word s) 0 110)))
 
   -- what the test of each port says of all
   pub tested_state : length words ≡ 110 → ((k : ℕ) → word_at words k < 2 ^ 32) →
