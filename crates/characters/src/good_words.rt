@@ -12,18 +12,18 @@ use crate::phases::Phase;
 use vocabulary::Refusal;
 
 // No word is above the largest that is allowed in its place. The words stand one by one: with `zip` and `all` over them
-// a bit takes 1.10 of the tested model's time where it takes 0.88, and 1.0 is allowed. They are not in
-// order: of four neighbours in order the compiler makes one test, and a bit takes a twentieth more instructions.
+// a bit takes 1.10 of the tested model's time where it takes 0.88, and 1.0 is allowed.
 #[inline(always)]
 fn within(words: &Words, most: Words) -> bool
     ensures { result ≡ within words.now most }
 {
     (words[PHASE] <= most[PHASE])
         & (words[SILENT] <= most[SILENT])
+        & (words[WAITS] <= most[WAITS])
+        & (words[VALUE] <= most[VALUE])
         & (words[ESCAPE] <= most[ESCAPE])
         & (words[FIRST] <= most[FIRST])
         & (words[PLACES] <= most[PLACES])
-        & ((words[WAITS] <= most[WAITS]) & (words[VALUE] <= most[VALUE]))
 }
 
 // The largest value that something with this number waits with, as C's words hold it: 3 an N-Char, 4 a Time-Code. Nothing,
@@ -39,15 +39,13 @@ fn most_value(number: u32) -> u32
     }
 }
 
-// A fresh decoder and a stopped one have an arm each: with one arm for both, a call of either takes up to a quarter more
-// instructions.
 #[inline(always)]
 fn fits(phase: Phase, words: &Words) -> bool
     requires { word_at words.now phase_at ≡ phase_number phase }
     ensures { result ≡ is_good words.now }
 {
     match phase {
-        Phase::Fresh => within(words, [7, 0, 0, 0, 0, 0, 0]),
+        Phase::Fresh | Phase::Stopped => within(words, [7, 0, 0, 0, 0, 0, 0]),
         Phase::Hunting => {
             within(words, [7, MOST_SILENT, 0, 0, 0, 0, 255]) & (words[PLACES] != HUNTED_FOR)
         }
@@ -66,7 +64,6 @@ fn fits(phase: Phase, words: &Words) -> bool
         Phase::Data => { within(words, [7, MOST_SILENT, 0, 0, 1, 0, 255]) & (words[PLACES] != 0) }
         Phase::Control => within(words, [7, MOST_SILENT, 0, 0, 1, 0, 0]),
         Phase::Second => within(words, [7, MOST_SILENT, 0, 0, 1, 1, 0]),
-        Phase::Stopped => within(words, [7, 0, 0, 0, 0, 0, 0]),
     }
 }
 

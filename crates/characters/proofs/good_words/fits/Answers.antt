@@ -1,15 +1,12 @@
 -- In each phase the largest words that are allowed are those of the decoder that the words mean.
 -- Assumes nothing.
 use Rattle.std.proofs.Common.{rules}
-use mathlib.Core.Logic.{inl, inr}
 use Rattle.characters.proofs.GoodLaws.{unused_good, hunting_good, between_good, parity_good, data_good}
 use Rattle.characters.proofs.GoodLaws.{control_good, second_good}
 use Rattle.characters.proofs.good_words.fits.Goals as goal
 
 pub returns-in-Fresh : goal.returns-in-Fresh
-returns-in-Fresh c =
-    let v = c.args.words.now in
-    rw c.within.ensures (unused_good v (search rules) (inl c.in-Fresh.is) c.requires)
+returns-in-Fresh c = rw c.within.ensures (unused_good c.args.words.now (search rules) c.in-Fresh.is c.requires)
 
 pub returns-in-Hunting : goal.returns-in-Hunting
 returns-in-Hunting c =
@@ -42,8 +39,3 @@ pub returns-in-Second : goal.returns-in-Second
 returns-in-Second c =
     let v = c.args.words.now in
     rw c.within-in-Second.ensures (second_good v (search rules) (rw c.in-Second.is at c.requires))
-
-pub returns-in-Stopped : goal.returns-in-Stopped
-returns-in-Stopped c =
-    let v = c.args.words.now in
-    rw c.within-in-Stopped.ensures (unused_good v (search rules) (inr c.in-Stopped.is) c.requires)
